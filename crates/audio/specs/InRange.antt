@@ -1,0 +1,28 @@
+-- The ranges of the sound values (01, Sound and "The board's calls"). Assumes nothing.
+use Prim.Native.Nat.{ℕ}
+use mathlib.Core.Bool.{Bool, _&&_, _||_}
+use lib.Dec.{leb, eqb}
+use Rattle.wholes.specs.Wholes.{isSum}
+use Rattle.audio.specs.declared.pulse.Pulse.{Pulse}
+use Rattle.audio.specs.declared.saw.Saw.{Saw}
+use Rattle.audio.specs.declared.Audio.{Audio}
+
+-- a shift is 0, 4 or 8
+abbrev pub isShift : (shift : ℕ) → Bool
+isShift s = eqb s 0 || eqb s 4 || eqb s 8
+
+-- frequency 0..4,095, timer 1..4,096, shift 0, 4 or 8
+abbrev pub channelInRange : (frequency timer shift : ℕ) → Bool
+channelInRange f t s = leb f 4095 && leb 1 t && leb t 4096 && isShift s
+
+-- volume 0..15, duty 0..7, pulse step 0..15
+unfoldable pub pulseInRange : Pulse → Bool
+pulseInRange p = leb (p .volume) 15 && leb (p .«duty_cycle») 7 && leb (p .step) 15 && channelInRange (p .frequency) (p .timer) (p .«freq_shift»)
+
+-- rate 0..63, saw step 0..13
+unfoldable pub sawInRange : Saw → Bool
+sawInRange s = leb (s .«accum_rate») 63 && leb (s .step) 13 && channelInRange (s .frequency) (s .timer) (s .«freq_shift»)
+
+-- every sound value, and the sum a whole number 0..61
+unfoldable pub audioInRange : Audio → Bool
+audioInRange a = pulseInRange (a .pulse1) && pulseInRange (a .pulse2) && sawInRange (a .saw) && isSum (a .out)

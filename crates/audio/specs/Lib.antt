@@ -1,0 +1,5 @@
+pub mod Channels
+pub mod Sound
+pub mod Levels
+pub mod InRange
+pub mod Ranges

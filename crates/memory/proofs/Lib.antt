@@ -1,0 +1,4 @@
+pub mod Accepted
+pub mod Banks
+pub mod Buffers
+pub mod Signed

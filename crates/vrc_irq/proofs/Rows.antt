@@ -1,0 +1,18 @@
+-- The reference positions of the interrupt, each by computing. Assumes nothing.
+use mathlib.Core.Path.{refl}
+use Rattle.steps.specs.Times.{times, count}
+use Rattle.vrc_irq.specs.Positions.{Positions}
+
+pub positions : Positions
+unfolding times count
+positions =
+    record {
+      ticks-at-114 = refl;
+      ticks-at-228 = refl;
+      two-ticks = refl;
+      not-pending-at-227 = refl;
+      pending-at-228 = refl;
+      forecast-228 = refl;
+      tick-after-acknowledge = refl;
+      prescaler-338 = refl;
+    }

@@ -1,0 +1,35 @@
+-- The reference positions of the interrupt (01, Reference positions), played from a fresh state through the registers. Assumes nothing.
+use mathlib.Core.Path.{_≡_}
+use mathlib.Core.Bool.{true, false}
+use Prim.Native.Nat.{ℕ, _-_}
+use Rattle.vrc_irq.specs.declared.VrcIrq.{VrcIrq}
+use Rattle.vrc_irq.specs.declared.IrqClocked.{IrqClocked}
+use Rattle.vrc_irq.specs.declared.IrqForecast.the-variants.{In}
+use Rattle.vrc_irq.specs.Interrupt.{irqReload, irqAcknowledged, irqZero}
+use Rattle.vrc_irq.specs.Board.{step, line, clockAnswer, controlWritten, forecastAnswer}
+use Rattle.vrc_irq.specs.Clocks.{irqAfter, reported}
+
+-- the answer of clock n, counted from 1
+abbrev pub clockNumber : (n : ℕ) → VrcIrq → IrqClocked
+clockNumber n q = clockAnswer (irqAfter step line (n - 1) q)
+
+-- reload $FE, control 2
+abbrev pub armed : VrcIrq
+armed = controlWritten 2 (irqReload 254 irqZero)
+
+-- reset, control 1, acknowledge
+abbrev pub acknowledged : VrcIrq
+acknowledged = irqAcknowledged (controlWritten 1 irqZero)
+
+-- the rows
+pub record Positions : Type 0 where
+  -- reload $FE, control 2: ticks at clocks 114 and 228 and at no other of the 228, pending at 228 and not at 227
+  pub ticks-at-114 : clockNumber 114 armed .ticked ≡ true
+  pub ticks-at-228 : clockNumber 228 armed .ticked ≡ true
+  pub two-ticks : reported step line 228 armed ≡ 2
+  pub not-pending-at-227 : clockNumber 227 armed .irq .«irq_pending» ≡ false
+  pub pending-at-228 : clockNumber 228 armed .irq .«irq_pending» ≡ true
+  pub forecast-228 : forecastAnswer armed ≡ In 228
+  -- reset, control 1, acknowledge, clock: a tick, prescaler 338
+  pub tick-after-acknowledge : clockAnswer acknowledged .ticked ≡ true
+  pub prescaler-338 : clockAnswer acknowledged .irq .«prescalar_counter» ≡ 338

@@ -1,0 +1,157 @@
+// The interrupt counter of the VRC chips, which ticks at each clock or once a line (VRC IRQ; vrc_irq.rs).
+
+ghost use mathlib.Core.Path.{_≡_};
+ghost use Rattle.vrc_irq.specs.Interrupt.{irqTick, irqReload, irqAcknowledged, irqZero};
+ghost use Rattle.vrc_irq.specs.Board.{prescalerFallen, clockAnswer, controlWritten, inRange, forecastAnswer};
+
+// What a clock takes from the prescaler.
+pub const STEP: u16 = 3;
+// What a line gives it.
+pub const LINE: u16 = 341;
+
+pub struct VrcIrq {
+    pub reload: u8,
+    pub counter: u8,
+    pub prescalar_counter: u16,
+    pub irq_pending: bool,
+    pub enabled: bool,
+    pub enabled_after_ack: bool,
+    pub cycle_mode: bool,
+}
+
+// A clock's answer: the counter after it, and whether it ticked.
+pub struct IrqClocked {
+    pub irq: VrcIrq,
+    pub ticked: bool,
+}
+
+// The clocks until the counter sets pending.
+pub enum IrqForecast {
+    None,
+    In(u32),
+}
+
+// The prescaler after a clock that counts lines. What is over at the end of a line is carried into the next.
+fn fallen(prescaler: u16) -> u16
+    ensures { λ r. ⌜ r ≡ prescalerFallen prescaler ⌝ }
+{
+    if prescaler <= STEP {
+        prescaler + (LINE - STEP)
+    } else {
+        prescaler - STEP
+    }
+}
+
+impl VrcIrq {
+    pub fn new() -> Self
+        ensures { λ r. ⌜ r ≡ irqZero ⌝ }
+    {
+        VrcIrq {
+            reload: 0,
+            counter: 0,
+            prescalar_counter: 0,
+            irq_pending: false,
+            enabled: false,
+            enabled_after_ack: false,
+            cycle_mode: false,
+        }
+    }
+
+    pub fn write_reload(mut self, val: u8) -> Self
+        ensures { λ r. ⌜ r ≡ irqReload val self ⌝ }
+    {
+        self.reload = val;
+        self
+    }
+
+    pub fn write_control(mut self, val: u8) -> Self
+        ensures { λ r. ⌜ r ≡ controlWritten val self ⌝ }
+    {
+        self.enabled_after_ack = val % 2 == 1;
+        self.enabled = val / 2 % 2 == 1;
+        self.cycle_mode = val / 4 % 2 == 1;
+        self.irq_pending = false;
+        if self.enabled {
+            self.counter = self.reload;
+            self.prescalar_counter = LINE;
+        }
+        self
+    }
+
+    pub fn acknowledge(mut self) -> Self
+        ensures { λ r. ⌜ r ≡ irqAcknowledged self ⌝ }
+    {
+        self.enabled = self.enabled_after_ack;
+        self.irq_pending = false;
+        self
+    }
+
+    // A tick, with the prescaler that its clock leaves.
+    fn tick(mut self, prescaler: u16) -> Self
+        ensures { λ r. ⌜ r ≡ irqTick prescaler self ⌝ }
+    {
+        self.prescalar_counter = prescaler;
+        if self.counter == 255 {
+            self.counter = self.reload;
+            self.irq_pending = true;
+            return self;
+        }
+        self.counter = self.counter + 1;
+        self
+    }
+
+    pub fn clock(mut self) -> IrqClocked
+        ensures { λ r. ⌜ r ≡ clockAnswer self ⌝ }
+    {
+        if self.enabled {
+            let given = self.prescalar_counter;
+            let rest = fallen(given);
+            // Cycle mode leaves the prescaler alone.
+            if self.cycle_mode {
+                let irq = self.tick(given);
+                return IrqClocked { irq, ticked: true };
+            }
+            if given <= STEP {
+                let irq = self.tick(rest);
+                return IrqClocked { irq, ticked: true };
+            }
+            self.prescalar_counter = rest;
+            return IrqClocked {
+                irq: self,
+                ticked: false,
+            };
+        }
+        IrqClocked {
+            irq: self,
+            ticked: false,
+        }
+    }
+
+    // Soft or hard alike.
+    pub fn reset(self) -> Self
+        ensures { λ r. ⌜ r ≡ irqZero ⌝ }
+    {
+        VrcIrq::new()
+    }
+
+    pub fn in_range(self) -> bool
+        ensures { λ r. ⌜ r ≡ inRange self ⌝ }
+    {
+        self.prescalar_counter <= LINE
+    }
+
+    pub fn forecast(self) -> IrqForecast
+        ensures { λ r. ⌜ r ≡ forecastAnswer self ⌝ }
+    {
+        if self.enabled {
+            let counter = self.counter as u32;
+            if self.cycle_mode {
+                return IrqForecast::In(256 - counter);
+            }
+            let step = STEP as u32;
+            let left = (LINE as u32) * (255 - counter) + (self.prescalar_counter as u32);
+            return IrqForecast::In((left + (step - 1)) / step);
+        }
+        IrqForecast::None
+    }
+}
