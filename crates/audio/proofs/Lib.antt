@@ -1,1 +1,4 @@
 pub mod Timers
+pub mod Ranged
+pub mod Kept
+pub mod Rows

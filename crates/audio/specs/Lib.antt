@@ -1,5 +1,9 @@
 pub mod Channels
+pub mod Pulses
+pub mod Saws
 pub mod Sound
 pub mod Levels
 pub mod InRange
 pub mod Ranges
+pub mod Laws
+pub mod Positions

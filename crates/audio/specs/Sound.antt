@@ -9,7 +9,8 @@ use Rattle.audio.specs.declared.AudioRegister.the-variants.{Pulse1, Puls
 use Rattle.audio.specs.declared.pulse.Pulse.{Pulse}
 use Rattle.audio.specs.declared.saw.Saw.{Saw}
 use Rattle.audio.specs.declared.Audio.{Audio}
-use Rattle.audio.specs.Channels.{pulseAt, sawAt, pulseWritten, sawWritten, pulseShifted, sawShifted, pulseClocked, sawClocked, pulseLevel, sawLevel}
+use Rattle.audio.specs.Pulses.{pulseAt, pulseWritten, pulseShifted, pulseClocked, pulseLevel}
+use Rattle.audio.specs.Saws.{sawAt, sawWritten, sawShifted, sawClocked, sawLevel}
 
 -- no channel on, each frequency and timer the same: 1 in `Audio::new`, 0 in the all-zero board
 abbrev pub audioAt : (frequency : ℕ) → Audio

@@ -11,21 +11,21 @@ pub enum ChannelRegister {
 }
 
 // The frequency with another low byte.
-pub fn low_byte(frequency: u16, val: u8) -> u16
+pub(crate) fn low_byte(frequency: u16, val: u8) -> u16
     ensures { λ r. ⌜ r ≡ lowByte frequency val ⌝ }
 {
     frequency / 256 % 16 * 256 + (val as u16)
 }
 
 // The frequency with other high bits, of which there are four.
-pub fn high_bits(frequency: u16, val: u8) -> u16
+pub(crate) fn high_bits(frequency: u16, val: u8) -> u16
     ensures { λ r. ⌜ r ≡ highBits frequency val ⌝ }
 {
     (val as u16) % 16 * 256 + frequency % 256
 }
 
 // The tests use & and |, which take no branch.
-pub fn channel_in_range(frequency: u16, timer: u16, shift: u8) -> bool
+pub(crate) fn channel_in_range(frequency: u16, timer: u16, shift: u8) -> bool
     ensures { λ r. ⌜ r ≡ channelInRange frequency timer shift ⌝ }
 {
     (frequency <= 4095)

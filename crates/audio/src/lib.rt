@@ -6,9 +6,8 @@ pub mod saw;
 use crate::channel::ChannelRegister;
 use crate::pulse::Pulse;
 use crate::saw::Saw;
-
 ghost use mathlib.Core.Path.{_≡_};
-ghost use Rattle.audio.specs.Sound.{audioAt, shiftOf, audioWritten, audioClocked, audioReset, anyEnabled};
+ghost use Rattle.audio.specs.Sound.{audioAt, shiftOf, audioWritten, audioClocked, audioReset};
 ghost use Rattle.audio.specs.InRange.{audioInRange};
 ghost use Rattle.audio.specs.Ranges.{AudioIn};
 ghost use Rattle.audio.specs.Levels.{outputOf, levelOf, levelName};
@@ -42,6 +41,21 @@ fn shift_of(val: u8) -> u8
         4
     } else {
         0
+    }
+}
+
+// The one place that gives a level its name.
+fn level_name(enabled: bool, halt: bool, output: f32) -> Level
+    ensures { λ r. ⌜ r ≡ levelName enabled halt output ⌝ }
+{
+    if enabled {
+        if halt {
+            Level::Held(output)
+        } else {
+            Level::Playing(output)
+        }
+    } else {
+        Level::Silent(output)
     }
 }
 
@@ -151,20 +165,5 @@ impl Audio {
         let enabled = self.pulse1.enabled | self.pulse2.enabled | self.saw.enabled;
         let halt = self.halt;
         level_name(enabled, halt, self.output())
-    }
-}
-
-// The one place that gives a level its name.
-fn level_name(enabled: bool, halt: bool, output: f32) -> Level
-    ensures { λ r. ⌜ r ≡ levelName enabled halt output ⌝ }
-{
-    if enabled {
-        if halt {
-            Level::Held(output)
-        } else {
-            Level::Playing(output)
-        }
-    } else {
-        Level::Silent(output)
     }
 }

@@ -1,10 +1,9 @@
 // A pulse channel ($9000..2 and $A000..2).
 use crate::channel;
 use crate::channel::ChannelRegister;
-
 ghost use mathlib.Core.Path.{_≡_};
 ghost use Rattle.wholes.specs.Wholes.{float};
-ghost use Rattle.audio.specs.Channels.{pulseAt, pulseWritten, pulseShifted, pulseClocked, pulseLevel};
+ghost use Rattle.audio.specs.Pulses.{pulseAt, pulseWritten, pulseShifted, pulseClocked, pulseLevel};
 ghost use Rattle.audio.specs.InRange.{pulseInRange};
 ghost use Rattle.audio.specs.Ranges.{PulseIn};
 
@@ -21,7 +20,7 @@ pub struct Pulse {
 
 impl Pulse {
     // A pulse that is off, with this frequency and timer.
-    pub fn silent(frequency: u16) -> Self
+    pub(crate) fn silent(frequency: u16) -> Self
         ensures { λ r. ⌜ r ≡ pulseAt frequency ⌝ }
     {
         Self {

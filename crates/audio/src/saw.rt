@@ -1,10 +1,9 @@
 // The saw channel ($B000..2).
 use crate::channel;
 use crate::channel::ChannelRegister;
-
 ghost use mathlib.Core.Path.{_≡_};
 ghost use Rattle.wholes.specs.Wholes.{float};
-ghost use Rattle.audio.specs.Channels.{sawAt, sawWritten, sawShifted, sawClocked, sawLevel, accumulated};
+ghost use Rattle.audio.specs.Saws.{sawAt, sawWritten, sawShifted, sawClocked, sawLevel, accumulated};
 ghost use Rattle.audio.specs.InRange.{sawInRange};
 ghost use Rattle.audio.specs.Ranges.{SawIn};
 
@@ -34,7 +33,7 @@ fn accumulated(step: u8, accum: u8, rate: u8) -> u8
 
 impl Saw {
     // A saw that is off, with this frequency and timer.
-    pub fn silent(frequency: u16) -> Self
+    pub(crate) fn silent(frequency: u16) -> Self
         ensures { λ r. ⌜ r ≡ sawAt frequency ⌝ }
     {
         Self {

@@ -1,4 +1,3 @@
 pub mod Accepted
-pub mod Banks
 pub mod Buffers
-pub mod Signed
+pub mod Stored

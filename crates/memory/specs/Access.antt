@@ -1,54 +1,16 @@
--- One access: the entry that serves an address, its check, the byte that it shows, a byte stored through it, its page
+-- One access: its refusal, the byte that an address shows, a byte stored, the page's bytes
 -- (01, Paging and "The board's calls"; memory.rs, `prg_peek`, `prg_write`, `chr_peek`, `chr_write`). Assumes nothing.
-use mathlib.Core.Bool.{Bool, true, cond, not, _&&_, _||_}
+use mathlib.Core.Bool.{Bool, true, cond, _&&_}
 use mathlib.Core.List.{List, [], _∷_, _++_}
-use Prim.Native.Nat.{ℕ, _+_, _-_, _/_, _%_}
+use Prim.Native.Nat.{ℕ, _+_, _-_, _%_}
 use lib.ListN.{length, getD, set, take, drop}
-use lib.Dec.{eqb, leb}
 use Rattle.basics.specs.Refusals.{firstFailing, unless}
-use Rattle.memory.specs.declared.page.Page.{Page}
-use Rattle.memory.specs.declared.table.Lookup.{Lookup}
-use Rattle.memory.specs.declared.table.Lookup.the-variants.{Unmapped, Mapped}
-use Rattle.memory.specs.declared.layout.MemoryLayout.{MemoryLayout}
-use Rattle.memory.specs.declared.access.Peeked.{Peeked}
-use Rattle.memory.specs.Pages.{unmapped, isUnmapped, offset, writable, spare}
-use Rattle.memory.specs.Layout.{fixedLength, changingLength, layoutChecks}
-
--- ---- the entry that serves an address
--- the CPU's table or the picture side's
-pub data Side : Type 0 where
-  cpu picture : Side
-
--- 64 entries serve the CPU, 16 the picture side (01, Records)
-abbrev pub entryCount : Side → ℕ
-entryCount cpu = 64
-entryCount picture = 16
-
--- the entry at address / 1,024, modulo 64 or 16 (01, Paging)
-abbrev pub entryFor : Side → List Page → (address : ℕ) → Page
-entryFor s table address = getD table (address / 1024 % entryCount s) unmapped
-
--- what a lookup says of an entry: nothing is there if it is unmapped, and otherwise the entry
-abbrev pub found : Page → Lookup
-found e = cond (isUnmapped e) Unmapped (Mapped e)
-
--- the entry that a lookup stands for: the one that it found, or the unmapped one
-abbrev pub serving : Lookup → Page
-serving Unmapped = unmapped
-serving (Mapped e) = e
-
--- ---- the check of the entry that a call uses
--- the page lies wholly inside the fixed buffer
-abbrev pub inFixed : MemoryLayout → Page → Bool
-inFixed l e = leb (offset e + 1024) (fixedLength l)
-
--- the page lies wholly inside the changing buffer
-abbrev pub inChanging : MemoryLayout → Page → Bool
-inChanging l e = leb (fixedLength l) (offset e) && leb (offset e + 1024) (fixedLength l + changingLength l)
-
--- offset a multiple of 1,024, bit 30 clear, the page wholly inside one buffer, writable only in changing (01, "The board's calls")
-abbrev pub entryInRange : MemoryLayout → Page → Bool
-entryInRange l e = eqb (offset e % 1024) 0 && not (spare e) && (inChanging l e || (inFixed l e && not (writable e)))
+use Rattle.layout.specs.declared.page.Page.{Page}
+use Rattle.layout.specs.declared.regions.MemoryLayout.{MemoryLayout}
+use Rattle.layout.specs.Pages.{offset, writable}
+use Rattle.layout.specs.Layout.{layoutChecks}
+use Rattle.layout.specs.Entries.{entryInRange}
+use Rattle.memory.specs.declared.Peeked.{Peeked}
 
 -- the refusal of a call that uses an entry: 1, 2, then 3 for the entry or for other values that the call checks (01, "The board's calls")
 abbrev pub accessRefusal : MemoryLayout → Page → (fixed changing : ℕ) → (others : Bool) → ℕ

@@ -1,23 +1,21 @@
 -- The forecast is the least number of clocks of which the last sets pending. Assumes nothing.
 use mathlib.Core.Path.{_≡_, refl, sym, ap, subst, _∙_}
-use mathlib.Core.Bool.{Bool, true, false, cond, not, _&&_, _||_, false≢true}
+use mathlib.Core.Bool.{Bool, true, false, cond, _&&_, _||_, false≢true}
 use mathlib.Core.Logic.{_⊎_, inl, inr, _↔_}
 use Prim.Native.Nat.{ℕ, zero, suc, _+_, _-_, _*_, _/_, _≤_, _<_}
 use native.Mathlib.Omega.{arith}
 use lib.Dec.{leb, eqb}
 use borrow.Author.Tests.{leb-true, leb-false, eq-eqb, ne-eqb}
-use Rattle.basics.proofs.Tests.{both, tested}
+use Rattle.basics.proofs.Tests.{tested}
 use Rattle.steps.specs.Times.{times, count}
-use Rattle.steps.specs.Falls.{Pace, runs, due}
+use Rattle.steps.specs.Falls.{Pace, due}
 use Rattle.steps.proofs.Falling.{due-law, due-plain-law}
 use Rattle.vrc_irq.specs.declared.VrcIrq.{VrcIrq}
-use Rattle.vrc_irq.specs.declared.IrqForecast.{IrqForecast}
 use Rattle.vrc_irq.specs.declared.IrqForecast.the-variants.{None, In}
-use Rattle.vrc_irq.specs.Interrupt.{irqTicks, nextCounter, countsLines, forecastIn, irqForecast}
-use Rattle.vrc_irq.specs.Board.{step, line, forecastAnswer}
-use Rattle.vrc_irq.specs.Clocks.{irqAfter, reported, irqSets, First}
-use Rattle.vrc_irq.specs.Laws.{PendingLaw, OneFirstLaw, NoneLaw, Exact, Late, ForecastLaw, ShortForecastLaw}
-use Rattle.vrc_irq.proofs.Runs.{lines-report, cycle-law, lines-enabled, lines-mode}
+use Rattle.vrc_irq.specs.Interrupt.{irqTicks, nextCounter, countsLines, forecastIn}
+use Rattle.vrc_irq.specs.Clocks.{irqAfter, reported, First}
+use Rattle.vrc_irq.specs.Laws.{PendingLaw, OneFirstLaw, NoneLaw, Exact, Late, ForecastLaw}
+use Rattle.vrc_irq.proofs.Runs.{lines-report, cycle-law}
 
 pub pending-law : PendingLaw
 pending-law d l q = go (irqTicks d q) (eqb (q .counter) 255) (q .«irq_pending»)

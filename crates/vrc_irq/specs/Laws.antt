@@ -1,6 +1,6 @@
 -- What holds of the interrupt counter, for any step d and line length l with 1 ≤ d ≤ l. Assumes nothing.
 use mathlib.Core.Path.{_≡_}
-use mathlib.Core.Bool.{Bool, true, false, cond, _||_}
+use mathlib.Core.Bool.{true, false, cond, _||_}
 use mathlib.Core.Logic.{_⊎_, _↔_}
 use Prim.Native.Nat.{ℕ, suc, _+_, _-_, _*_, _/_, _≤_, _<_}
 use Rattle.steps.specs.Falls.{Pace, fell}

@@ -29,6 +29,10 @@ pub record Positions : Type 0 where
   pub two-ticks : reported step line 228 armed ≡ 2
   pub not-pending-at-227 : clockNumber 227 armed .irq .«irq_pending» ≡ false
   pub pending-at-228 : clockNumber 228 armed .irq .«irq_pending» ≡ true
+  -- and then at 341: lines of 114, 114 and 113 clocks (VRC IRQ)
+  pub ticks-at-341 : clockNumber 341 armed .ticked ≡ true
+  pub three-ticks : reported step line 341 armed ≡ 3
+  -- the forecast there
   pub forecast-228 : forecastAnswer armed ≡ In 228
   -- reset, control 1, acknowledge, clock: a tick, prescaler 338
   pub tick-after-acknowledge : clockAnswer acknowledged .ticked ≡ true

@@ -67,37 +67,40 @@ impl VrcIrq {
     pub fn write_control(mut self, val: u8) -> Self
         ensures { λ r. ⌜ r ≡ controlWritten val self ⌝ }
     {
+        let enabled = val / 2 % 2 == 1;
         self.enabled_after_ack = val % 2 == 1;
-        self.enabled = val / 2 % 2 == 1;
+        self.enabled = enabled;
         self.cycle_mode = val / 4 % 2 == 1;
         self.irq_pending = false;
-        if self.enabled {
+        if enabled {
             self.counter = self.reload;
             self.prescalar_counter = LINE;
         }
         self
     }
 
-    pub fn acknowledge(mut self) -> Self
+    pub fn acknowledge(self) -> Self
         ensures { λ r. ⌜ r ≡ irqAcknowledged self ⌝ }
     {
-        self.enabled = self.enabled_after_ack;
-        self.irq_pending = false;
-        self
+        let mut irq = self;
+        irq.enabled = self.enabled_after_ack;
+        irq.irq_pending = false;
+        irq
     }
 
     // A tick, with the prescaler that its clock leaves.
-    fn tick(mut self, prescaler: u16) -> Self
+    fn tick(self, prescaler: u16) -> Self
         ensures { λ r. ⌜ r ≡ irqTick prescaler self ⌝ }
     {
-        self.prescalar_counter = prescaler;
+        let mut irq = self;
+        irq.prescalar_counter = prescaler;
         if self.counter == 255 {
-            self.counter = self.reload;
-            self.irq_pending = true;
-            return self;
+            irq.counter = self.reload;
+            irq.irq_pending = true;
+            return irq;
         }
-        self.counter = self.counter + 1;
-        self
+        irq.counter = self.counter + 1;
+        irq
     }
 
     pub fn clock(mut self) -> IrqClocked
@@ -143,14 +146,18 @@ impl VrcIrq {
     pub fn forecast(self) -> IrqForecast
         ensures { λ r. ⌜ r ≡ forecastAnswer self ⌝ }
     {
-        if self.enabled {
+        let armed = self.enabled;
+        if armed {
             let counter = self.counter as u32;
             if self.cycle_mode {
-                return IrqForecast::In(256 - counter);
+                let clocks = 256 - counter;
+                return IrqForecast::In(clocks);
             }
+            // How far the prescaler has to fall, divided by what a clock takes and rounded up.
             let step = STEP as u32;
-            let left = (LINE as u32) * (255 - counter) + (self.prescalar_counter as u32);
-            return IrqForecast::In((left + (step - 1)) / step);
+            let far = (LINE as u32) * (255 - counter) + (self.prescalar_counter as u32);
+            let clocks = (far + (step - 1)) / step;
+            return IrqForecast::In(clocks);
         }
         IrqForecast::None
     }

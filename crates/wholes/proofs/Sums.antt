@@ -3,17 +3,17 @@ use Prim.Native.Nat.{ℕ, _*_, _/_, _^_, _≤_, _<_}
 use native.Mathlib.Nat.{mul-lt-mul-of-pos-right, div-lt-iff-lt-mul}
 use native.Mathlib.Omega.{arith}
 use mathlib.Core.Path.{_≡_, refl, sym, ap, _∙_, subst}
-use mathlib.Core.Bool.{Bool, true, false, not, _&&_, true≢false, false≢true}
+use mathlib.Core.Bool.{Bool, true, false, not, true≢false, false≢true}
 use lib.IntN.{pos}
 use lib.Dec.{T, leb, leb→le, le→leb}
-use lib.Ieee.{Float, nan, inf, fin, binary32, up, down, lt, fits, ofBits, toBits, inUnsigned, toUnsigned, inFloat, isNan}
+use lib.Ieee.{Float, nan, inf, fin, binary32, up, down, lt, fits, round, ofInt, neg, ofBits, toBits, whole, inUnsigned, toUnsigned, inFloat, isNan}
 use lib.Ieee.Fits.{down-pos, and-i, and-l, and-r}
 use lib.Ieee.Exact.{HasValue}
 use lib.Ieee.Back.{unsigned-back, float-back-unsigned}
 use lib.Ieee.Bits.{ofBits-toBits}
 use borrow.Author.Tests.{lt-ltb, ltb-true}
 use Rattle.wholes.specs.Wholes.{float, isSum}
-use Rattle.wholes.specs.Laws.{IsSumLaw}
+use Rattle.wholes.specs.Laws.{IsSumLaw, NoSums}
 use Rattle.wholes.proofs.Exact.{has}
 
 -- a test that passes is true, and a true one passes
@@ -38,6 +38,9 @@ float-is-sum n h =
     let back = part-back n (omega arith) in
     and-i (inUnsigned binary32 8 (float n)) (leb (toUnsigned 8 (float n)) 61) (back .0) (rw (back .1) (le→leb n 61 h))
 
+pub float-tested : (n : ℕ) → n ≤ 61 → isSum (float n) ≡ true
+float-tested n h = passed (isSum (float n)) (float-is-sum n h)
+
 pub sum-is-float : (x : Float) → T (fits binary32 x) → T (isSum x) → (toUnsigned 8 x ≤ 61) × (float (toUnsigned 8 x) ≡ x)
 unfolding isSum
 sum-is-float x f s = (
@@ -48,8 +51,20 @@ sum-is-float x f s = (
 pub is-sum-law : IsSumLaw
 is-sum-law x f = (
   λ s. let is = sum-is-float x f (passes s) in (toUnsigned 8 x, is .0, sym (is .1)),
-  λ t. subst (λ (y : Float). isSum y ≡ true) (sym (t .2)) (passed (isSum (float (t .0))) (float-is-sum (t .0) (t .1))),
+  λ t. subst (λ (y : Float). isSum y ≡ true) (sym (t .2)) (float-tested (t .0) (t .1)),
 )
+
+pub no-sums : NoSums
+unfolding isSum inUnsigned whole toUnsigned neg ofInt round ofBits
+no-sums =
+    record {
+      not-a-number = refl;
+      infinite = λ s. refl;
+      negative-zero = refl;
+      negative-one = refl;
+      half = refl;
+      sixty-two = refl;
+    }
 
 -- ---- below 62, which is `fin false 31 (pos 1)`
 below : (x : Float) (a : ℕ) → HasValue x false a 1 → a < 62 → lt x (fin false 31 (pos 1)) ≡ true

@@ -1,0 +1,54 @@
+-- `access_refusal` meets its contract: a refusal by 1 or 2 stands, and otherwise the values decide. Assumes nothing.
+use mathlib.Core.Path.{_≡_, sym, ap, _∙_}
+use mathlib.Core.Bool.{Bool, _&&_}
+use mathlib.Core.List.{[], _∷_}
+use Prim.Native.Nat.{ℕ}
+use borrow.Author.Needs.{needs}
+use Rattle.basics.specs.Refusals.{firstFailing}
+use Rattle.basics.proofs.Tests.{first-refused}
+use Rattle.layout.specs.Layout.{withinLimits, lengthsFit, layoutChecks}
+use Rattle.memory.specs.Access.{accessRefusal}
+use Rattle.layout.specs.Entries.{entryInRange}
+use Rattle.layout.proofs.Limited.{limits}
+use Rattle.memory.proofs.Accepted.{passed}
+use Rattle.memory.proofs.access_refusal.Statement.{statement}
+use Rattle.memory.proofs.access_refusal.Tie as tie
+
+refusal-requires : tie.Need-refusal-requires
+refusal-requires c κs = search needs
+
+returns : tie.Need-returns
+returns c =
+    let a = c .before .before .args in
+    let e = c .before .refusal .ensures in
+    e ∙ sym (first-refused (layoutChecks (a .layout) (a .fixed) (a .changing)) ((a .others && entryInRange (a .layout) (a .page), 3) ∷ []) (λ z. c .if1 .taken (e ∙ z)))
+
+entry-in-range-requires : tie.Need-entry-in-range-requires
+entry-in-range-requires c κs =
+    let a = c .before .before .args in
+    limits (a .layout)
+    (passed (withinLimits (a .layout)) (lengthsFit (a .layout) (a .fixed) (a .changing)) [] (sym (c .before .refusal .ensures) ∙ c .if1 .left) .0)
+
+-- conditions 1 and 2 hold
+values : (c : tie.After-entry-in-range)
+    → (v : Bool) → (c .before .before .before .args .others && c .entry-in-range .result) ≡ v
+    → accessRefusal (c .before .before .before .args .layout) (c .before .before .before .args .page) (c .before .before .before .args .fixed)
+    (c .before .before .before .args .changing) (c .before .before .before .args .others)
+    ≡ firstFailing ((v, 3) ∷ [])
+values c v e =
+    let a = c .before .before .before .args in
+    passed (withinLimits (a .layout)) (lengthsFit (a .layout) (a .fixed) (a .changing))
+    ((a .others && entryInRange (a .layout) (a .page), 3) ∷ [])
+    (sym (c .before .before .refusal .ensures) ∙ c .before .if1 .left) .2
+    ∙ ap (λ (b : Bool). firstFailing ((a .others && b, 3) ∷ [])) (sym (c .entry-in-range .ensures))
+    ∙ ap (λ (b : Bool). firstFailing ((b, 3) ∷ [])) e
+
+returns-2 : tie.Need-returns-2
+returns-2 c = sym (values (c .before) _ (c .if2 .taken))
+
+returns-3 : tie.Need-returns-3
+returns-3 c = sym (values (c .before) _ (c .if2 .left))
+
+pub access-refusal-spec : {M : Type 1} → statement M
+access-refusal-spec =
+    tie.close (tie.spec refusal-requires returns entry-in-range-requires returns-2 returns-3)

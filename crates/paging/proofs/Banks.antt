@@ -1,0 +1,29 @@
+-- What the paging rule computes stays small, and lies inside its region. Assumes nothing.
+use mathlib.Core.Path.{_≡_, refl, sym, ap, _∙_}
+use mathlib.Core.Bool.{Bool, true, false, cond}
+use Prim.Native.Nat.{ℕ, zero, suc, _+_, _-_, _*_, _/_, _%_, _^_, _≤_, _<_, max}
+use native.Mathlib.Omega.{arith}
+use native.Mathlib.Nat.{mod-lt, div-mul-le-self, mul-le-mul-right, le-trans}
+use lib.Dec.{eqb}
+use lib.IntN.{ℤ, pos, negsuc}
+use Rattle.layout.specs.declared.regions.Region.{Region}
+use Rattle.paging.specs.Paging.{remEuclid, bankCount, base}
+use Rattle.paging.specs.Inner.{Reach}
+
+-- the bank is one of the banks
+pub bank-low : (b : ℤ) (n : ℕ) → 1 ≤ n → remEuclid b n < n
+bank-low (pos k) n h = mod-lt k h
+bank-low (negsuc k) n h = omega arith
+
+under : (k q s n : ℕ) → k < max 1 q → q * s ≤ n → k * s ≤ n
+under zero q s n h e = omega arith
+under (suc k) q s n h e = le-trans (mul-le-mul-right {m = suc k} {n = q} s (omega arith)) e
+
+-- it begins at or before the region's end
+pub base-low : (r : Region) (s : ℕ) (b : ℤ) → base r s b ≤ r .len
+base-low r s b =
+    under (remEuclid b (bankCount r s)) (r .len / s) s (r .len) (bank-low b (bankCount r s) (omega arith)) (div-mul-le-self (r .len) s)
+
+-- a page of it lies before the region's end
+pub wrapped-low : (r : Region) (s : ℕ) (b : ℤ) (i : ℕ) → (r .len ≡ 0 → ⊥) → (base r s b + 1024 * i) % r .len < r .len
+wrapped-low r s b i n = mod-lt (base r s b + 1024 * i) {m = r .len} (omega arith)

@@ -1,0 +1,21 @@
+-- What the functions of this crate require of their arguments. Assumes nothing.
+use Prim.Native.Nat.{ℕ, _+_, _/_, _^_, _≤_, _<_}
+use Rattle.layout.specs.declared.regions.Region.{Region}
+
+-- page i of a window of s bytes on a region: the region ends below 2 ^ 29, the window has 1 to 16,384 bytes
+pub record Reach (r : Region) (s i : ℕ) : Type 0 where
+  pub below : r .start + r .len ≤ 2 ^ 29
+  pub some : 1 ≤ s
+  pub most : s ≤ 16_384
+  pub page : i < 16
+
+-- a window of 1 to 16,384 bytes at an address, inside a table of so many entries
+pub record Inside (address s count : ℕ) : Type 0 where
+  pub some : 1 ≤ s
+  pub most : s ≤ 16_384
+  pub inside : address / 1024 + s / 1024 ≤ count
+
+-- the same on a region that ends below 2 ^ 29
+pub record Window (r : Region) (address s count : ℕ) : Type 0 where
+  pub below : r .start + r .len ≤ 2 ^ 29
+  pub window : Inside address s count

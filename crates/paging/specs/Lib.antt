@@ -1,0 +1,4 @@
+pub mod Paging
+pub mod Inner
+pub mod Laws
+pub mod Positions

@@ -1,0 +1,55 @@
+-- The paging rule: which page of a region each entry of a window shows (01, Paging; memory.rs, `map_pages`). Assumes nothing.
+use mathlib.Core.Bool.{cond}
+use mathlib.Core.List.{List}
+use Prim.Native.Nat.{ℕ, _+_, _-_, _*_, _/_, _%_, max}
+use lib.Dec.{eqb}
+use lib.IntN.{ℤ, pos, negsuc}
+use lib.ListN.{getD}
+use lib.Seq.{sets}
+use Rattle.basics.specs.Lists.{tabulate}
+use Rattle.layout.specs.declared.page.Page.{Page}
+use Rattle.layout.specs.declared.regions.Region.{Region}
+use Rattle.layout.specs.Pages.{entry, unmapped}
+
+-- b modulo the count of banks, never negative (01, Paging; `rem_euclid`); `negsuc n` is -(n + 1)
+abbrev pub remEuclid : ℤ → (banks : ℕ) → ℕ
+remEuclid (pos n) banks = n % banks
+remEuclid (negsuc n) banks = banks - 1 - n % banks
+
+-- a region's banks of s bytes: max(1, n / s rounded down) (01, Paging)
+abbrev pub bankCount : Region → (s : ℕ) → ℕ
+bankCount r s = max 1 (r .len / s)
+
+-- where bank b begins in the region: (b modulo banks) × s (01, Paging)
+abbrev pub base : Region → (s : ℕ) → ℤ → ℕ
+base r s b = remEuclid b (bankCount r s) * s
+
+-- page i of a window of s bytes on bank b: region start + (base + 1,024 i) mod n, and unmapped if n = 0 (01, Paging)
+abbrev pub shown : Region → (s : ℕ) → ℤ → (i : ℕ) → Page
+shown r s b i = cond (eqb (r .len) 0) unmapped (entry (r .start + (base r s b + 1024 * i) % r .len) (r .writable))
+
+-- the entries of a window of s bytes on bank b, one for each of its pages
+abbrev pub window : Region → (s : ℕ) → ℤ → List Page
+window r s b = tabulate (s / 1024) (shown r s b)
+
+-- a table of which a run is replaced, from the entry of an address on; of 64 entries or of 16 (`map_prg`, `map_chr`)
+abbrev pub replaced : List Page → (address : ℕ) → List Page → List Page
+replaced table address run = sets table (address / 1024) run
+
+-- the entries of a window of s bytes that shows nothing (`unmap_prg`)
+abbrev pub nothing : (s : ℕ) → List Page
+nothing s = tabulate (s / 1024) (λ _. unmapped)
+
+-- ---- the entry that serves an address
+-- the CPU's table or the picture side's
+pub data Side : Type 0 where
+  cpu picture : Side
+
+-- 64 entries serve the CPU, 16 the picture side (01, Records)
+abbrev pub entryCount : Side → ℕ
+entryCount cpu = 64
+entryCount picture = 16
+
+-- the entry at address / 1,024, modulo 64 or 16 (01, Paging)
+abbrev pub entryFor : Side → List Page → (address : ℕ) → Page
+entryFor s table address = getD table (address / 1024 % entryCount s) unmapped
