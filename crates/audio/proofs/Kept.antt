@@ -1,5 +1,5 @@
 -- Each call leaves the sound in range, and a clock leaves a whole sum. Assumes nothing.
-use Prim.Native.Nat.{ℕ, _+_, _-_, _%_, _≤_, _<_}
+use Prim.Native.Nat.{ℕ, _+_, _-_, _%_, _≤_}
 use native.Mathlib.Omega.{arith}
 use mathlib.Core.Path.{_≡_, refl}
 use mathlib.Core.Bool.{Bool, true, false, cond, _&&_, _||_, true≢false}
@@ -70,26 +70,26 @@ module _ {f t s : ℕ} (h : ChannelIn f t s) where
         shift-is = either (λ n. isShift n ≡ true) (bit 2 v) refl (either (λ n. isShift n ≡ true) (bit 1 v) refl refl);
       }
 
-low-top : (f v : ℕ) → v < 256 → lowByte f v ≤ 4095
-low-top f v h = omega arith
+low-top : (f v : ℕ) → lowByte f v ≤ 4095
+low-top f v = omega arith
 
 high-top : (f v : ℕ) → highBits f v ≤ 4095
 high-top f v = omega arith
 
 -- ---- a pulse
 module _ {p : Pulse} (h : PulseIn p) where
-  pulse-written : (r : ChannelRegister) (v : ℕ) → v < 256 → PulseIn (pulseWritten r v p)
+  pulse-written : (r : ChannelRegister) (v : ℕ) → PulseIn (pulseWritten r v p)
   unfolding pulseWritten
-  pulse-written Control v k =
+  pulse-written Control v =
       record { volume-top = omega arith; duty-top = omega arith; step-top = h .step-top; channel = h .channel }
-  pulse-written FrequencyLow v k =
+  pulse-written FrequencyLow v =
       record {
         volume-top = h .volume-top;
         duty-top = h .duty-top;
         step-top = h .step-top;
-        channel = channel-tuned (h .channel) (lowByte (p .frequency) v) (low-top (p .frequency) v k);
+        channel = channel-tuned (h .channel) (lowByte (p .frequency) v) (low-top (p .frequency) v);
       }
-  pulse-written FrequencyHigh v k =
+  pulse-written FrequencyHigh v =
       record {
         volume-top = h .volume-top;
         duty-top = h .duty-top;
@@ -132,18 +132,18 @@ accumulated-top k a r h =
     either (λ n. n ≤ 255) (eqb k 0) (omega arith) (either (λ n. n ≤ 255) (eqb (k % 2) 0) (omega arith) h)
 
 module _ {s : Saw} (h : Saws s) where
-  saw-written : (r : ChannelRegister) (v : ℕ) → v < 256 → Saws (sawWritten r v s)
+  saw-written : (r : ChannelRegister) (v : ℕ) → Saws (sawWritten r v s)
   unfolding sawWritten
-  saw-written Control v k = (record { rate-top = omega arith; step-top = h .0 .step-top; channel = h .0 .channel }, h .1)
-  saw-written FrequencyLow v k = (
+  saw-written Control v = (record { rate-top = omega arith; step-top = h .0 .step-top; channel = h .0 .channel }, h .1)
+  saw-written FrequencyLow v = (
     record {
       rate-top = h .0 .rate-top;
       step-top = h .0 .step-top;
-      channel = channel-tuned (h .0 .channel) (lowByte (s .frequency) v) (low-top (s .frequency) v k);
+      channel = channel-tuned (h .0 .channel) (lowByte (s .frequency) v) (low-top (s .frequency) v);
     },
     h .1,
   )
-  saw-written FrequencyHigh v k = (
+  saw-written FrequencyHigh v = (
     record {
       rate-top = h .0 .rate-top;
       step-top = either (λ n. n ≤ 13) (enables v) (h .0 .step-top) (omega arith);
@@ -194,14 +194,14 @@ tested {a} h = (in-range-law a .1 (h .0), h .1)
 known : {a : Audio} → InRange a → Sounds a
 known {a} h = (in-range-law a .0 (h .0), h .1)
 
-written : (r : AudioRegister) (v : ℕ) → v < 256 → (a : Audio) → Sounds a → Sounds (audioWritten r v a)
+written : (r : AudioRegister) (v : ℕ) (a : Audio) → Sounds a → Sounds (audioWritten r v a)
 unfolding audioWritten
-written (Pulse1 r) v k a h = (record { first = pulse-written (h .0 .first) r v k; second = h .0 .second; third = h .0 .third; sum = h .0 .sum }, h .1)
-written (Pulse2 r) v k a h = (record { first = h .0 .first; second = pulse-written (h .0 .second) r v k; third = h .0 .third; sum = h .0 .sum }, h .1)
-written (OfSaw r) v k a h =
-    let t = saw-written (h .0 .third, h .1) r v k in
+written (Pulse1 r) v a h = (record { first = pulse-written (h .0 .first) r v; second = h .0 .second; third = h .0 .third; sum = h .0 .sum }, h .1)
+written (Pulse2 r) v a h = (record { first = h .0 .first; second = pulse-written (h .0 .second) r v; third = h .0 .third; sum = h .0 .sum }, h .1)
+written (OfSaw r) v a h =
+    let t = saw-written (h .0 .third, h .1) r v in
     (record { first = h .0 .first; second = h .0 .second; third = t .0; sum = h .0 .sum }, t .1)
-written Halt v k a h = (
+written Halt v a h = (
   record {
     first = pulse-shifted (h .0 .first) v;
     second = pulse-shifted (h .0 .second) v;
@@ -246,7 +246,7 @@ unfolding audioInRange
 kept-law =
     record {
       new = new-in;
-      write = λ r v k a h. tested (written r v k a (known h));
+      write = λ r v a h. tested (written r v a (known h));
       clock = λ a h. tested (clocked a (known h));
       reset = λ a h. h;
     }

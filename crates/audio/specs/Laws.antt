@@ -1,5 +1,5 @@
 -- What is proved of the sound. Assumes nothing.
-use Prim.Native.Nat.{ℕ, _+_, _≤_, _<_}
+use Prim.Native.Nat.{ℕ, _+_, _≤_}
 use mathlib.Core.Path.{_≡_}
 use mathlib.Core.Bool.{true, false}
 use mathlib.Core.Logic.{_↔_}
@@ -27,7 +27,7 @@ Keeps f = (a : Audio) → InRange a → InRange (f a)
 -- no call takes the sound out of range, and creation puts it there
 pub record KeptLaw : Type 0 where
   pub new : InRange (audioAt 1)
-  pub write : (r : AudioRegister) (v : ℕ) → v < 256 → Keeps (λ a. audioWritten r v a)
+  pub write : (r : AudioRegister) (v : ℕ) → Keeps (λ a. audioWritten r v a)
   pub clock : Keeps audioClocked
   pub reset : Keeps audioReset
 
