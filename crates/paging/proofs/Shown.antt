@@ -140,5 +140,9 @@ module _ (l : MemoryLayout) (h : Limits l) where
         home = (omega arith, omega arith);
       }
 
+-- every region ends below 2 ^ 29
+pub ends : (l : MemoryLayout) → Limits l → (src : Src) → region l src .start + region l src .len ≤ 2 ^ 29
+ends l h src = homed l h src .small
+
 pub shown-law : ShownLaw
 shown-law l h src pages b i = shown-good l (region l src) (homed l (limits l h) src) pages b i

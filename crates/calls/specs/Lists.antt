@@ -1,0 +1,123 @@
+-- A call as a value, and lists of calls: each call's whole answer, and the board and buffers that it leaves to the next
+-- (01, "Demand 3's lists and their ledger"). Assumes nothing.
+use mathlib.Core.Bool.{Bool, false}
+use mathlib.Core.List.{List, [], _∷_}
+use Prim.Native.Nat.{ℕ}
+use Rattle.paging.specs.Paging.{cpu, picture}
+use Rattle.audio.specs.Levels.{levelRefusal}
+use Rattle.vrc6.specs.declared.board.Board.{Board}
+use Rattle.vrc6.specs.declared.board.ByteRead.{ByteRead}
+use Rattle.vrc6.specs.declared.board.Written.{Written}
+use Rattle.vrc6.specs.declared.board.Clocked.{Clocked}
+use Rattle.vrc6.specs.declared.board.Leveled.{Leveled}
+use Rattle.vrc6.specs.declared.board.Forecasted.{Forecasted}
+use Rattle.vrc6.specs.declared.board.Forecast.{Forecast}
+use Rattle.vrc6.specs.declared.board.Forecast.the-variants.{None, In, Refused}
+use Rattle.calls.specs.declared.Call.{Call}
+use Rattle.calls.specs.declared.Call.the-variants.{CpuRead, CpuWrite, LentCpuWrite, PictureRead, PictureWrite, Clock, LentClock, SoftReset, HardReset, ReadLevel, PageView, ReadForecast}
+use Rattle.calls.specs.declared.Answer.{Answer}
+use Rattle.calls.specs.declared.Answer.the-variants.{Byte, Done, Tick, OfLevel, OfForecast, View}
+use Rattle.calls.specs.declared.Stepped.{Stepped}
+use Rattle.vrc6.specs.Boards.{State, heldBy}
+use Rattle.vrc6.specs.Calls.{byteRead, cpuWrite, cpuWriteLeft, pictureWrite, pictureWriteLeft, clock, reset, level, forecast, pageView, pageViewRefusal}
+
+-- a call's whole answer, as its contract has it; page view's bytes with the number of the call beside it
+pub data Given : Type 0 where
+  ofRead : ByteRead → Given
+  ofWrite : Written → Given
+  ofClock : Clocked → Given
+  ofLevel : Leveled → Given
+  ofForecast : Forecasted → Given
+  ofView : (bytes : List ℕ) (refusal : ℕ) → Given
+
+-- the answer that the call's contract names; clock and CPU write answer alike in both forms
+abbrev pub given : State → Call → Given
+given x (CpuRead a) = ofRead (byteRead cpu x a)
+given x (CpuWrite a v) = ofWrite (cpuWrite x a v)
+given x (LentCpuWrite a v) = ofWrite (cpuWrite x a v)
+given x (PictureRead a) = ofRead (byteRead picture x a)
+given x (PictureWrite a v) = ofWrite (pictureWrite x a v)
+given x Clock = ofClock (clock (x .board))
+given x LentClock = ofClock (clock (x .board))
+given x SoftReset = ofWrite (reset (x .board))
+given x HardReset = ofWrite (reset (x .board))
+given x ReadLevel = ofLevel (level (x .board))
+given x (PageView a) = ofView (pageView x a) (pageViewRefusal x a)
+given x ReadForecast = ofForecast (forecast (x .board))
+
+-- the changing buffer after a call
+abbrev pub changingAfter : State → Call → List ℕ
+changingAfter x (CpuRead a) = x .changing
+changingAfter x (CpuWrite a v) = cpuWriteLeft x a v .changing
+changingAfter x (LentCpuWrite a v) = cpuWriteLeft x a v .changing
+changingAfter x (PictureRead a) = x .changing
+changingAfter x (PictureWrite a v) = pictureWriteLeft x a v .changing
+changingAfter x Clock = x .changing
+changingAfter x LentClock = x .changing
+changingAfter x SoftReset = x .changing
+changingAfter x HardReset = x .changing
+changingAfter x ReadLevel = x .changing
+changingAfter x (PageView a) = x .changing
+changingAfter x ReadForecast = x .changing
+
+-- ---- what an answer says
+-- the board that it hands back; a view hands none back, and leaves the board where it was
+abbrev pub boardIn : Board → Given → Board
+boardIn b (ofRead r) = r .board
+boardIn b (ofWrite r) = r .board
+boardIn b (ofClock r) = r .board
+boardIn b (ofLevel r) = r .board
+boardIn b (ofForecast r) = r .board
+boardIn b (ofView bytes n) = b
+
+-- the refusal number of a forecast
+abbrev pub forecastRefusal : Forecast → ℕ
+forecastRefusal None = 0
+forecastRefusal (In n) = 0
+forecastRefusal (Refused n) = n
+
+-- its refusal number
+abbrev pub refusalIn : Given → ℕ
+refusalIn (ofRead r) = r .refusal
+refusalIn (ofWrite r) = r .refusal
+refusalIn (ofClock r) = r .refusal
+refusalIn (ofLevel r) = levelRefusal (r .level)
+refusalIn (ofForecast r) = forecastRefusal (r .forecast)
+refusalIn (ofView bytes n) = n
+
+-- whether it reports a tick
+abbrev pub tickIn : Given → Bool
+tickIn (ofRead r) = false
+tickIn (ofWrite r) = false
+tickIn (ofClock r) = r .ticked
+tickIn (ofLevel r) = false
+tickIn (ofForecast r) = false
+tickIn (ofView bytes n) = false
+
+-- what it says beside the board and the view's bytes, as `step` answers it
+abbrev pub said : Given → Answer
+said (ofRead r) = Byte (r .byte) (r .refusal)
+said (ofWrite r) = Done (r .refusal)
+said (ofClock r) = Tick (r .ticked) (r .refusal)
+said (ofLevel r) = OfLevel (r .level)
+said (ofForecast r) = OfForecast (r .forecast)
+said (ofView bytes n) = View n
+
+-- `step`: the board that the call hands back, and what the call says
+abbrev pub step : State → Call → Stepped
+step x k = record { board = boardIn (x .board) (given x k); answer = said (given x k) }
+
+-- ---- the list
+-- each call gets what the last one left
+abbrev pub next : State → Call → State
+next x k = heldBy (boardIn (x .board) (given x k)) (x .fixed) (changingAfter x k)
+
+-- board and buffers after the list
+abbrev pub after : State → List Call → State
+after x [] = x
+after x (k ∷ ks) = after (next x k) ks
+
+-- the answers, in order
+abbrev pub answers : State → List Call → List Given
+answers x [] = []
+answers x (k ∷ ks) = given x k ∷ answers (next x k) ks

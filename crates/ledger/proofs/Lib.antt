@@ -1,0 +1,11 @@
+pub mod Ticks
+pub mod Shown
+pub mod Kept
+pub mod Whole
+pub mod Exhibits
+pub mod Lasting
+pub mod Refusals
+pub mod Bytes
+pub mod Tabled
+pub mod Answered
+pub mod Rows

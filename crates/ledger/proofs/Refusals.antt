@@ -1,0 +1,135 @@
+-- A refused call gives back what it was given, and its number is that of the first check that fails. Assumes nothing.
+use mathlib.Core.Path.{_≡_, refl, sym, ap, _∙_}
+use mathlib.Core.Bool.{Bool, true, false, cond, false≢true}
+use mathlib.Core.List.{List, [], _∷_}
+use mathlib.Core.Logic.{_↔_}
+use Prim.Native.Nat.{ℕ, suc, _≤_}
+use native.Mathlib.Omega.{arith}
+use Rattle.basics.specs.Refusals.{firstFailing, unless}
+use Rattle.basics.proofs.Tests.{unless-refused}
+use Rattle.paging.specs.Paging.{cpu, picture}
+use Rattle.audio.specs.declared.Level.the-variants.{Refused as NoLevel}
+use Rattle.audio.specs.Levels.{levelOf, levelIn}
+use Rattle.vrc_irq.specs.Board.{forecastAnswer}
+use Rattle.vrc6.specs.declared.board.Board.{Board}
+use Rattle.vrc6.specs.declared.board.ByteRead.{ByteRead}
+use Rattle.vrc6.specs.declared.board.Written.{Written}
+use Rattle.vrc6.specs.declared.board.Forecast.the-variants.{Refused}
+use Rattle.calls.specs.declared.Call.{Call}
+use Rattle.calls.specs.declared.Call.the-variants.{CpuRead, CpuWrite, LentCpuWrite, PictureRead, PictureWrite, Clock, LentClock, SoftReset, HardReset, ReadLevel, PageView, ReadForecast}
+use Rattle.vrc6.specs.Boards.{State, heldBy, newBoard, zeroBoard}
+use Rattle.vrc6.specs.Checks.{createRefusal, memoryRefusal, engineRefusal, cpuWriteRefusal}
+use Rattle.vrc6.specs.Calls.{byteRead, cpuWrite, pictureWrite, reset, forecastOf}
+use Rattle.calls.specs.Lists.{ofRead, ofWrite, given, refusalIn, next}
+use Rattle.ledger.specs.Demand3.{Each}
+use Rattle.ledger.specs.Refused.{forecastTold, GivenBack, RefusedLaw, RefusedCreateLaw, checks, createChecks, Numbered, OrderLaw}
+use Rattle.ledger.proofs.Shown.{answered}
+
+-- a number that is not 0
+back : {A : Type 0} (n : ℕ) (done given : A) → (n ≡ 0 → ⊥) → unless n done given ≡ given
+back n done given h = unless-refused done given n n refl h
+
+module _ (x : State) where
+  -- a write
+  state-back : (n : ℕ) (y : State) → (n ≡ 0 → ⊥) → heldBy (unless n y x .board) (x .fixed) (unless n y x .changing) ≡ x
+  state-back n y h = ap (λ (z : State). heldBy (z .board) (x .fixed) (z .changing)) (back n y x h)
+
+  -- clock and reset
+  board-back : (n : ℕ) (b : Board) → (n ≡ 0 → ⊥) → heldBy (unless n b (x .board)) (x .fixed) (x .changing) ≡ x
+  board-back n b h = ap (λ (z : Board). heldBy z (x .fixed) (x .changing)) (back n b (x .board) h)
+
+  -- an answer of each kind
+  of-read : (n b : ℕ) (r : ByteRead) → r .byte ≡ unless n b 0 → (n ≡ 0 → ⊥) → GivenBack x (ofRead r) x
+  of-read n b r e h = record { state = refl; byte = e ∙ back n b 0 h; view = refl; tick = refl; level = refl; forecast = refl }
+
+  of-write : (r : Written) (y : State) → y ≡ x → GivenBack x (ofWrite r) y
+  of-write r y e = record { state = e; byte = refl; view = refl; tick = refl; level = refl; forecast = refl }
+
+  of-clock : (engineRefusal (x .board) ≡ 0 → ⊥) → GivenBack x (given x Clock) (next x Clock)
+  of-clock h =
+      let n = engineRefusal (x .board) in
+      record { state = board-back n _ h; byte = refl; view = refl; tick = back n _ false h; level = refl; forecast = refl }
+
+  of-level : (engineRefusal (x .board) ≡ 0 → ⊥) → GivenBack x (given x ReadLevel) x
+  of-level h =
+      let n = engineRefusal (x .board) in
+      let none = ap levelIn (back n (levelOf (x .board .audio)) (NoLevel n) h) in
+      record { state = refl; byte = refl; view = refl; tick = refl; level = none; forecast = refl }
+
+  of-forecast : (engineRefusal (x .board) ≡ 0 → ⊥) → GivenBack x (given x ReadForecast) x
+  of-forecast h =
+      let n = engineRefusal (x .board) in
+      let none = ap forecastTold (back n (forecastOf (forecastAnswer (x .board .irq))) (Refused n) h) in
+      record { state = refl; byte = refl; view = refl; tick = refl; level = refl; forecast = none }
+
+  of-view : (a : ℕ) → (memoryRefusal picture x a true ≡ 0 → ⊥) → GivenBack x (given x (PageView a)) x
+  of-view a h =
+      record { state = refl; byte = refl; view = back (memoryRefusal picture x a true) _ [] h; tick = refl; level = refl; forecast = refl }
+
+  given-back : (k : Call) → (firstFailing (checks x k) ≡ 0 → ⊥) → GivenBack x (given x k) (next x k)
+  given-back (CpuRead a) h = of-read (memoryRefusal cpu x a true) _ (byteRead cpu x a) refl h
+  given-back (CpuWrite a v) h = of-write (cpuWrite x a v) _ (state-back (cpuWriteRefusal x a) _ h)
+  given-back (LentCpuWrite a v) h = of-write (cpuWrite x a v) _ (state-back (cpuWriteRefusal x a) _ h)
+  given-back (PictureRead a) h = of-read (memoryRefusal picture x a true) _ (byteRead picture x a) refl h
+  given-back (PictureWrite a v) h = of-write (pictureWrite x a v) _ (state-back (memoryRefusal picture x a true) _ h)
+  given-back Clock h = of-clock h
+  given-back LentClock h = of-clock h
+  given-back SoftReset h = of-write (reset (x .board)) _ (board-back (engineRefusal (x .board)) _ h)
+  given-back HardReset h = of-write (reset (x .board)) _ (board-back (engineRefusal (x .board)) _ h)
+  given-back ReadLevel h = of-level h
+  given-back (PageView a) h = of-view a h
+  given-back ReadForecast h = of-forecast h
+
+pub refused-law : RefusedLaw
+refused-law x k h = given-back x k (λ z. h (answered x k ∙ z))
+
+pub refused-create-law : RefusedCreateLaw
+refused-create-law c h = back (createRefusal c) (newBoard (c .layout) (c .mirroring) (c .revision)) zeroBoard h
+
+-- ---- the order of the numbers
+-- no check has the number 0
+abbrev Some : List (Bool × ℕ) → Type 0
+Some ts = Each (λ t. 1 ≤ t .1) ts
+
+none-fails : (ts : List (Bool × ℕ)) → Some ts → (firstFailing ts ≡ 0) ↔ Each (λ t. t .0 ≡ true) ts
+none-fails [] s = ((λ _. tt), (λ _. refl))
+none-fails (t ∷ ts) s = go (t .0) (none-fails ts (s .1))
+  where
+    go : (b : Bool) → (firstFailing ts ≡ 0) ↔ Each (λ u. u .0 ≡ true) ts
+        → (cond b (firstFailing ts) (t .1) ≡ 0) ↔ ((b ≡ true) × Each (λ u. u .0 ≡ true) ts)
+    go true more = ((λ h. (refl, more .0 h)), (λ h. more .1 (h .1)))
+    go false more = ((λ h. absurd (omega (arith, s .0))), (λ h. absurd (false≢true (h .0))))
+
+-- a number that is the first failing
+numbered : (ts : List (Bool × ℕ)) (n : ℕ) → Some ts → n ≡ firstFailing ts → Numbered ts n
+numbered ts n s e =
+    let f = none-fails ts s in
+    record { first = e; only = ((λ h. f .0 (sym e ∙ h)), (λ h. e ∙ f .1 h)) }
+
+-- it says nothing of the tests themselves
+three : (n : ℕ) → Some ((true, 1) ∷ (true, 2) ∷ (true, suc n) ∷ [])
+three n = (omega arith, (omega arith, (omega arith, tt)))
+
+one : Some ((true, 3) ∷ [])
+one = (omega arith, tt)
+
+some-checks : (x : State) (k : Call) → Some (checks x k)
+some-checks x (CpuRead a) = three 2
+some-checks x (CpuWrite a v) = three 2
+some-checks x (LentCpuWrite a v) = three 2
+some-checks x (PictureRead a) = three 2
+some-checks x (PictureWrite a v) = three 2
+some-checks x Clock = one
+some-checks x LentClock = one
+some-checks x SoftReset = one
+some-checks x HardReset = one
+some-checks x ReadLevel = one
+some-checks x (PageView a) = three 2
+some-checks x ReadForecast = one
+
+pub order-law : OrderLaw
+order-law =
+    record {
+      create-number = λ c. numbered (createChecks c) (createRefusal c) (three 3) refl;
+      call-number = λ x k. numbered (checks x k) (refusalIn (given x k)) (some-checks x k) (answered x k);
+    }

@@ -1,0 +1,223 @@
+-- The state that a ledger shows, and that every call which is not refused leads from one such state to the next. Assumes nothing.
+use mathlib.Core.Path.{_≡_, refl, ap, _∙_}
+use mathlib.Core.Bool.{Bool, true, false, _||_}
+use mathlib.Core.List.{List, [], _∷_, map}
+use mathlib.Core.Option.{Option, some}
+use Prim.Native.Nat.{ℕ, zero, suc, _%_, _<_}
+use native.Mathlib.Omega.{arith}
+use native.Mathlib.Nat.{le-of-suc-le-suc, not-suc-le-zero, mod-eq-of-lt}
+use lib.Ieee.{Float}
+use lib.ListN.{length, set}
+use Rattle.basics.specs.Refusals.{firstFailing, unless}
+use Rattle.basics.proofs.Tests.{either}
+use Rattle.paging.specs.Paging.{cpu, picture}
+use Rattle.decode.specs.declared.Register.{Register}
+use Rattle.decode.specs.declared.Register.the-variants.{Nothing, OfBank, OfAudio, OfIrq}
+use Rattle.decode.specs.declared.BankRegister.{BankRegister}
+use Rattle.decode.specs.declared.BankRegister.the-variants.{Prg16, Prg8, Mode, Chr}
+use Rattle.decode.specs.declared.IrqRegister.the-variants.{Reload, Control, Acknowledge}
+use Rattle.decode.specs.Decode.{decode}
+use Rattle.decode.proofs.Chr.{chr-law}
+use Rattle.banks.specs.Banking.{bankWritten, isB}
+use Rattle.vrc_irq.specs.declared.VrcIrq.{VrcIrq}
+use Rattle.vrc_irq.specs.Interrupt.{irqZero}
+use Rattle.vrc_irq.specs.Board.{clockAnswer, forecastAnswer}
+use Rattle.audio.specs.declared.Audio.{Audio}
+use Rattle.audio.specs.declared.Level.the-variants.{Refused as NoLevel}
+use Rattle.audio.specs.Sound.{audioWritten, audioClocked, audioReset, anyEnabled}
+use Rattle.audio.specs.Levels.{levelOf, levelName, levelRefusal, outputOf}
+use Rattle.vrc6.specs.declared.board.Board.{Board}
+use Rattle.vrc6.specs.declared.board.Forecast.the-variants.{Refused}
+use Rattle.calls.specs.declared.Call.{Call}
+use Rattle.calls.specs.declared.Call.the-variants.{CpuRead, CpuWrite, LentCpuWrite, PictureRead, PictureWrite, Clock, LentClock, SoftReset, HardReset, ReadLevel, PageView, ReadForecast}
+use Rattle.vrc6.specs.Boards.{State, heldBy, Creation, paged}
+use Rattle.vrc6.specs.Checks.{engineRefusal, memoryRefusal, cpuWriteRefusal}
+use Rattle.vrc6.specs.Calls.{irqWritten, registerWritten, cpuWritten, pictureWritten, clocked, wasReset, forecastOf}
+use Rattle.calls.specs.Lists.{given, refusalIn, tickIn, forecastRefusal, next}
+use Rattle.ledger.specs.Ledger.{Ledger, Registers, Timing, Event, cpuWrites, pictureWrites, clocks, resets, looks, event, noted, byteOf, has, anyHas, bankingOf, taken, registersAfter, timingAfter, copied}
+use Rattle.ledger.specs.Refused.{checks}
+use Rattle.ledger.specs.Played.{done}
+use Rattle.ledger.specs.Foreseen.{ticksNoted}
+use Rattle.ledger.proofs.Ticks.{same-fall}
+
+-- ---- a state from a ledger, and from what the ledger does not hold: three interrupt values and the sound
+pub record Count : Type 0 where
+  pub reload : ℕ
+  pub counter : ℕ
+  pub pending : Bool
+
+abbrev pub irqOf : Timing → Count → VrcIrq
+irqOf t r =
+    record {
+      reload = r .reload;
+      counter = r .counter;
+      «prescalar_counter» = t .prescaler;
+      «irq_pending» = r .pending;
+      enabled = t .enabled;
+      «enabled_after_ack» = t .after-acknowledge;
+      «cycle_mode» = t .cycle;
+    }
+
+abbrev pub countOf : VrcIrq → Count
+countOf q = record { reload = q .reload; counter = q .counter; pending = q .«irq_pending» }
+
+abbrev pub boardOf : Creation → Registers → Timing → Count → Audio → Board
+boardOf c g t r a = paged (c .layout) (bankingOf c g) (irqOf t r) a
+
+abbrev pub shown : Creation → Ledger → Count → Audio → State
+shown c l r a = heldBy (boardOf c (l .registers) (l .timing) r a) (c .fixed) (l .copy)
+
+-- ---- interrupt and sound after a call
+abbrev irqAt : Register → ℕ → VrcIrq → VrcIrq
+irqAt Nothing v q = q
+irqAt (OfBank b) v q = q
+irqAt (OfAudio s) v q = q
+irqAt (OfIrq i) v q = irqWritten i v q
+
+abbrev pub audioAfter : Register → ℕ → Audio → Audio
+audioAfter Nothing v a = a
+audioAfter (OfBank b) v a = a
+audioAfter (OfAudio s) v a = audioWritten s v a
+audioAfter (OfIrq i) v a = a
+
+abbrev irqNext : Creation → VrcIrq → Event → VrcIrq
+irqNext c q (cpuWrites a v) = irqAt (decode (isB (c .revision)) a) v q
+irqNext c q (pictureWrites a v) = q
+irqNext c q clocks = clockAnswer q .irq
+irqNext c q resets = irqZero
+irqNext c q looks = q
+
+abbrev pub countNext : Creation → Ledger → Count → Event → Count
+countNext c l r e = countOf (irqNext c (irqOf (l .timing) r) e)
+
+abbrev pub audioNext : Creation → Audio → Event → Audio
+audioNext c x (cpuWrites a v) = audioAfter (decode (isB (c .revision)) a) v x
+audioNext c x (pictureWrites a v) = x
+audioNext c x clocks = audioClocked x
+audioNext c x resets = audioReset x
+audioNext c x looks = x
+
+-- ---- a bank write
+pub or-true : (b : Bool) → (b || true) ≡ true
+or-true true = refl
+or-true false = refl
+
+map-set : (os : List (Option ℕ)) (i v : ℕ) → set (map byteOf os) i v ≡ map byteOf (set os i (some v))
+map-set [] i v = refl
+map-set (o ∷ os) zero v = refl
+map-set (o ∷ os) (suc i) v = ap (λ (vs : List ℕ). byteOf o ∷ vs) (map-set os i v)
+
+any-set : (os : List (Option ℕ)) (i v : ℕ) → i < length os → anyHas (set os i (some v)) ≡ true
+any-set [] i v h = absurd (not-suc-le-zero h)
+any-set (o ∷ os) zero v h = refl
+any-set (o ∷ os) (suc i) v h = rw (any-set os i v (le-of-suc-le-suc h)) (or-true (has o))
+
+-- a CHR register's number is below 8
+abbrev pub Known : Register → Type 0
+Known k = (i : ℕ) → k ≡ OfBank (Chr i) → i < 8
+
+module _ (c : Creation) (g : Registers) (eight : length (g .chr) ≡ 8) where
+  banked : (b : BankRegister) (v : ℕ) → Known (OfBank b) → bankWritten b v (bankingOf c g) ≡ bankingOf c (taken b v g)
+  banked Prg16 v h = refl
+  banked Prg8 v h = refl
+  banked Mode v h = refl
+  banked (Chr i) v h =
+      let low = h i refl in
+      let inside : i < length (g .chr) = omega arith in
+      let same : i % 8 ≡ i = mod-eq-of-lt low in
+      simp (same, map-set, any-set (g .chr) i v inside, or-true)
+
+  written : (k : Register) (v : ℕ) (t : Timing) (r : Count) (a : Audio) → Known k
+      → registerWritten k v (boardOf c g t r a)
+      ≡ boardOf c (registersAfter k v g) (timingAfter k v t) (countOf (irqAt k v (irqOf t r))) (audioAfter k v a)
+  written Nothing v t r a h = refl
+  written (OfBank b) v t r a h = rw (banked b v h)
+  written (OfAudio s) v t r a h = refl
+  written (OfIrq Reload) v t r a h = refl
+  written (OfIrq Control) v t r a h = refl
+  written (OfIrq Acknowledge) v t r a h = refl
+
+-- ---- every call, where it is not refused
+pub led : (c : Creation) (l : Ledger) (r : Count) (x : Audio) (e : Event) → length (l .registers .chr) ≡ 8
+    → done (shown c l r x) e ≡ shown c (noted c l e) (countNext c l r e) (audioNext c x e)
+led c l r x (cpuWrites a v) e =
+    ap (λ (b : Board). heldBy b (c .fixed) (copied cpu c l a v))
+    (written c (l .registers) e (decode (isB (c .revision)) a) v (l .timing) r x (chr-law (isB (c .revision)) a))
+led c l r x (pictureWrites a v) e = refl
+led c l r x clocks e = rw (same-fall (l .timing .prescaler))
+led c l r x resets e = refl
+led c l r x looks e = refl
+
+-- the number that a call checks
+abbrev pub refusalOf : State → Call → ℕ
+refusalOf x k = firstFailing (checks x k)
+
+-- a state where the call's number is n, and it is 0
+left-by : (x y : State) (n : ℕ) → n ≡ 0 → heldBy (unless n y x .board) (x .fixed) (unless n y x .changing) ≡ heldBy (y .board) (x .fixed) (y .changing)
+left-by x y n h = ap (λ (m : ℕ). heldBy (unless m y x .board) (x .fixed) (unless m y x .changing)) h
+
+board-by : (x : State) (b : Board) (n : ℕ) → n ≡ 0 → heldBy (unless n b (x .board)) (x .fixed) (x .changing) ≡ heldBy b (x .fixed) (x .changing)
+board-by x b n h = ap (λ (m : ℕ). heldBy (unless m b (x .board)) (x .fixed) (x .changing)) h
+
+pub next-done : (x : State) (k : Call) → refusalOf x k ≡ 0 → next x k ≡ done x (event k)
+next-done x (CpuRead a) h = refl
+next-done x (CpuWrite a v) h = left-by x (cpuWritten x a v) (cpuWriteRefusal x a) h
+next-done x (LentCpuWrite a v) h = left-by x (cpuWritten x a v) (cpuWriteRefusal x a) h
+next-done x (PictureRead a) h = refl
+next-done x (PictureWrite a v) h = left-by x (pictureWritten x a v) (memoryRefusal picture x a true) h
+next-done x Clock h = board-by x (clocked (x .board)) (engineRefusal (x .board)) h
+next-done x LentClock h = board-by x (clocked (x .board)) (engineRefusal (x .board)) h
+next-done x SoftReset h = board-by x (wasReset (x .board)) (engineRefusal (x .board)) h
+next-done x HardReset h = board-by x (wasReset (x .board)) (engineRefusal (x .board)) h
+next-done x ReadLevel h = refl
+next-done x (PageView a) h = refl
+next-done x ReadForecast h = refl
+
+-- a level that is there is no refusal, and neither is a forecast
+pub level-fine : (on halt : Bool) (x : Float) → levelRefusal (levelName on halt x) ≡ 0
+unfolding levelName
+level-fine false halt x = refl
+level-fine true true x = refl
+level-fine true false x = refl
+
+pub level-number : (a : Audio) (n : ℕ) → levelRefusal (unless n (levelOf a) (NoLevel n)) ≡ n
+level-number a zero = level-fine (anyEnabled a) (a .halt) (outputOf (a .out))
+level-number a (suc n) = refl
+
+pub forecast-number : (q : VrcIrq) (n : ℕ) → forecastRefusal (unless n (forecastOf (forecastAnswer q)) (Refused n)) ≡ n
+forecast-number q zero = either (λ f. forecastRefusal (forecastOf f) ≡ 0) (q .enabled) refl refl
+forecast-number q (suc n) = refl
+
+-- the answer says that number
+pub answered : (x : State) (k : Call) → refusalIn (given x k) ≡ refusalOf x k
+answered x (CpuRead a) = refl
+answered x (CpuWrite a v) = refl
+answered x (LentCpuWrite a v) = refl
+answered x (PictureRead a) = refl
+answered x (PictureWrite a v) = refl
+answered x Clock = refl
+answered x LentClock = refl
+answered x SoftReset = refl
+answered x HardReset = refl
+answered x ReadLevel = level-number (x .board .audio) (engineRefusal (x .board))
+answered x (PageView a) = refl
+answered x ReadForecast = forecast-number (x .board .irq) (engineRefusal (x .board))
+
+module _ (c : Creation) (l : Ledger) (r : Count) (x : Audio) where
+  pub stepped : (k : Call) → length (l .registers .chr) ≡ 8 → refusalOf (shown c l r x) k ≡ 0
+      → next (shown c l r x) k ≡ shown c (noted c l (event k)) (countNext c l r (event k)) (audioNext c x (event k))
+  stepped k e h = next-done (shown c l r x) k h ∙ led c l r x (event k) e
+
+  pub ticked : (k : Call) → refusalOf (shown c l r x) k ≡ 0 → tickIn (given (shown c l r x) k) ≡ ticksNoted (l .timing) (event k)
+  ticked (CpuRead a) h = refl
+  ticked (CpuWrite a v) h = refl
+  ticked (LentCpuWrite a v) h = refl
+  ticked (PictureRead a) h = refl
+  ticked (PictureWrite a v) h = refl
+  ticked Clock h = ap (λ (n : ℕ). unless n (clockAnswer (irqOf (l .timing) r) .ticked) false) h
+  ticked LentClock h = ap (λ (n : ℕ). unless n (clockAnswer (irqOf (l .timing) r) .ticked) false) h
+  ticked SoftReset h = refl
+  ticked HardReset h = refl
+  ticked ReadLevel h = refl
+  ticked (PageView a) h = refl
+  ticked ReadForecast h = refl

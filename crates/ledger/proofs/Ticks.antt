@@ -1,0 +1,139 @@
+-- The ticks of a stretch, foreseen from the ledger alone. Assumes nothing.
+use mathlib.Core.Path.{_≡_, refl, sym, ap, _∙_}
+use mathlib.Core.Bool.{Bool, true, false, cond}
+use mathlib.Core.List.{List, [], _∷_, map}
+use Prim.Native.Nat.{ℕ, zero, suc, _+_, _-_, _≤_}
+use native.Mathlib.Omega.{arith}
+use lib.Dec.{leb}
+use lib.ListN.{take, drop}
+use Rattle.basics.specs.Rows.{flag}
+use Rattle.steps.specs.Times.{times, count}
+use Rattle.steps.specs.Falls.{fallen as stepFallen, fell, runs}
+use Rattle.steps.proofs.Falling.{range-law, add-law, tick-law}
+use Rattle.decode.specs.declared.Register.{Register}
+use Rattle.decode.specs.declared.Register.the-variants.{Nothing, OfBank, OfAudio, OfIrq}
+use Rattle.decode.specs.declared.IrqRegister.the-variants.{Reload, Control, Acknowledge}
+use Rattle.decode.specs.Decode.{decode}
+use Rattle.banks.specs.Banking.{isB}
+use Rattle.vrc_irq.specs.Board.{step, line}
+use Rattle.vrc_irq.proofs.Board.{pace}
+use Rattle.calls.specs.declared.Call.{Call}
+use Rattle.vrc6.specs.Boards.{Creation}
+use Rattle.calls.specs.Lists.{Given, tickIn}
+use Rattle.ledger.specs.Ledger.{Ledger, Timing, Event, cpuWrites, pictureWrites, clocks, resets, looks, event, ledger, noted, timingAfter, timingClocked, fallen}
+use Rattle.ledger.specs.Foreseen.{ticksNoted, foreseen}
+use Rattle.ledger.specs.Demand3.{Each, part, weight, clockCount, tickCount, QuietRegister, Quiet, CountsLines, stretchTicks}
+
+-- how many
+abbrev pub total : List Bool → ℕ
+total [] = 0
+total (b ∷ bs) = flag b + total bs
+
+-- the ledger's own fall is the step's
+pub same-fall : (p : ℕ) → fallen p ≡ stepFallen step line p
+same-fall p = let e : p + 341 - 3 ≡ p + 338 = omega arith in ap (λ (n : ℕ). cond (leb p 3) n (p - 3)) e
+
+-- ---- one call of a stretch: it is its weight in clocks
+record Weighed (t u : Timing) (e : Event) : Type 0 where
+  reported : flag (ticksNoted t e) ≡ runs step line (t .prescaler) (weight e)
+  rest : u .prescaler ≡ fell step line (t .prescaler) (weight e)
+  enabled : u .enabled ≡ true
+  lines : u .cycle ≡ false
+
+-- no clock
+none : (t u : Timing) (e : Event) → weight e ≡ 0 → ticksNoted t e ≡ false → t ≡ u → CountsLines t → Weighed t u e
+unfolding times count
+none t u e w f s h =
+    record {
+      reported = ap flag f ∙ ap (λ (n : ℕ). runs step line (t .prescaler) n) (sym w);
+      rest = ap (λ (v : Timing). v .prescaler) (sym s) ∙ ap (λ (n : ℕ). fell step line (t .prescaler) n) (sym w);
+      enabled = ap (λ (v : Timing). v .enabled) (sym s) ∙ h .enabled;
+      lines = ap (λ (v : Timing). v .cycle) (sym s) ∙ h .lines;
+    }
+
+-- a clock
+once : (t : Timing) → CountsLines t → Weighed t (timingClocked t) clocks
+unfolding times count
+once t h =
+    record {
+      reported = simp (h .enabled, h .lines) (omega arith);
+      rest = simp (h .enabled, h .lines) (same-fall (t .prescaler));
+      enabled = h .enabled;
+      lines = h .lines;
+    }
+
+-- a register that is neither control nor acknowledge
+still : (r : Register) (v : ℕ) (t : Timing) → QuietRegister r → t ≡ timingAfter r v t
+still Nothing v t q = refl
+still (OfBank b) v t q = refl
+still (OfAudio s) v t q = refl
+still (OfIrq Reload) v t q = refl
+still (OfIrq Control) v t q = absurd q
+still (OfIrq Acknowledge) v t q = absurd q
+
+module _ (c : Creation) where
+  weighed : (e : Event) (l : Ledger) → Quiet c e → CountsLines (l .timing) → Weighed (l .timing) (noted c l e .timing) e
+  weighed (cpuWrites a v) l q h =
+      none (l .timing) (noted c l (cpuWrites a v) .timing) (cpuWrites a v) refl refl (still (decode (isB (c .revision)) a) v (l .timing) q) h
+  weighed (pictureWrites a v) l q h = none (l .timing) (l .timing) (pictureWrites a v) refl refl refl h
+  weighed clocks l q h = once (l .timing) h
+  weighed resets l q h = absurd q
+  weighed looks l q h = none (l .timing) (l .timing) looks refl refl refl h
+
+  -- the call's clocks and those behind it, added up
+  pub counted : (ks : List Call) (l : Ledger) → Each (λ k. Quiet c (event k)) ks → CountsLines (l .timing)
+      → total (foreseen c l ks) ≡ runs step line (l .timing .prescaler) (clockCount ks)
+  unfolding count
+  counted [] l q h = refl
+  counted (k ∷ ks) l q h =
+      let e = event k in
+      let p = l .timing .prescaler in
+      let w = weighed e l (q .0) h in
+      let low : 1 ≤ noted c l e .timing .prescaler = rw (w .rest) (range-law step line pace p (weight e) .above (h .low)) in
+      let more = counted ks (noted c l e) (q .1) (record { enabled = w .enabled; lines = w .lines; low = low }) in
+      let added = add-law step line p (weight e) (clockCount ks) .counted in
+      let behind = ap (λ (n : ℕ). runs step line n (clockCount ks)) (w .rest) in
+      omega (arith, w .reported)
+
+  -- ---- a part of the foreseen ticks is what is foreseen of that part
+  foreseen-take : (ks : List Call) (l : Ledger) (n : ℕ) → take n (foreseen c l ks) ≡ foreseen c l (take n ks)
+  foreseen-take ks l zero = refl
+  foreseen-take [] l (suc n) = refl
+  foreseen-take (k ∷ ks) l (suc n) =
+      ap (λ (rest : List Bool). ticksNoted (l .timing) (event k) ∷ rest) (foreseen-take ks (noted c l (event k)) n)
+
+  foreseen-drop : (ks : List Call) (l : Ledger) (i : ℕ)
+      → drop i (foreseen c l ks) ≡ foreseen c (ledger c l (take i ks)) (drop i ks)
+  foreseen-drop ks l zero = refl
+  foreseen-drop [] l (suc i) = refl
+  foreseen-drop (k ∷ ks) l (suc i) = foreseen-drop ks (noted c l (event k)) i
+
+  foreseen-part : (ks : List Call) (l : Ledger) (i n : ℕ)
+      → part i n (foreseen c l ks) ≡ foreseen c (ledger c l (take i ks)) (part i n ks)
+  foreseen-part ks l i n =
+      ap (take n) (foreseen-drop ks l i) ∙ foreseen-take (drop i ks) (ledger c l (take i ks)) n
+
+-- ---- answers that report what is foreseen
+pub total-map : (gs : List Given) → tickCount gs ≡ total (map tickIn gs)
+total-map [] = refl
+total-map (a ∷ gs) = ap (λ (m : ℕ). flag (tickIn a) + m) (total-map gs)
+
+map-take : (m : ℕ) (gs : List Given) → map tickIn (take m gs) ≡ take m (map tickIn gs)
+map-take zero gs = refl
+map-take (suc m) [] = refl
+map-take (suc m) (a ∷ gs) = ap (λ (bs : List Bool). tickIn a ∷ bs) (map-take m gs)
+
+map-drop : (m : ℕ) (gs : List Given) → map tickIn (drop m gs) ≡ drop m (map tickIn gs)
+map-drop zero gs = refl
+map-drop (suc m) [] = refl
+map-drop (suc m) (a ∷ gs) = map-drop m gs
+
+pub counted-part : (c : Creation) (ks : List Call) (l : Ledger) (gs : List Given) → map tickIn gs ≡ foreseen c l ks
+    → (i n : ℕ) → Each (λ k. Quiet c (event k)) (part i n ks) → CountsLines (ledger c l (take i ks) .timing)
+    → tickCount (part i n gs) ≡ stretchTicks (clockCount (part i n ks)) (ledger c l (take i ks) .timing .prescaler)
+counted-part c ks l gs e i n q h =
+    let p = ledger c l (take i ks) .timing .prescaler in
+    total-map (part i n gs)
+    ∙ ap total (map-take n (drop i gs) ∙ ap (take n) (map-drop i gs) ∙ ap (part i n) e ∙ foreseen-part c ks l i n)
+    ∙ counted c (part i n ks) (ledger c l (take i ks)) q h
+    ∙ tick-law step line pace p (clockCount (part i n ks)) (h .low)

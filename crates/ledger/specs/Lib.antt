@@ -1,0 +1,10 @@
+pub mod Ledger
+pub mod Demand3
+pub mod Exhibited
+pub mod Last
+pub mod Foreseen
+pub mod Refused
+pub mod Played
+pub mod Laws
+pub mod Answers
+pub mod Positions

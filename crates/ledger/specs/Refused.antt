@@ -1,0 +1,132 @@
+-- Refused means given back, of every call (01, "The board's calls", the table's first row) and of create, and the order of the numbers.
+-- Assumes nothing.
+use mathlib.Core.Path.{_≡_}
+use mathlib.Core.Bool.{Bool, true, false, _&&_}
+use mathlib.Core.List.{List, [], _∷_}
+use mathlib.Core.Logic.{_↔_}
+use mathlib.Core.Option.{Option, none, some}
+use Prim.Native.Nat.{ℕ}
+use lib.Ieee.{Float}
+use lib.ListN.{length, take}
+use Rattle.basics.specs.Refusals.{firstFailing}
+use Rattle.layout.specs.Layout.{withinLimits, lengthsFit}
+use Rattle.layout.specs.Entries.{entryInRange}
+use Rattle.paging.specs.Paging.{Side, cpu, picture}
+use Rattle.audio.specs.Levels.{levelIn}
+use Rattle.vrc6.specs.declared.board.Forecast.{Forecast}
+use Rattle.vrc6.specs.declared.board.Forecast.the-variants.{None, In, Refused}
+use Rattle.calls.specs.declared.Call.{Call}
+use Rattle.calls.specs.declared.Call.the-variants.{CpuRead, CpuWrite, LentCpuWrite, PictureRead, PictureWrite, Clock, LentClock, SoftReset, HardReset, ReadLevel, PageView, ReadForecast}
+use Rattle.vrc6.specs.Boards.{State, Creation, zeroBoard, entryOf}
+use Rattle.vrc6.specs.Checks.{allZero, engineInRange, registerChecks}
+use Rattle.vrc6.specs.Calls.{create}
+use Rattle.calls.specs.Lists.{Given, ofRead, ofWrite, ofClock, ofLevel, ofForecast, ofView, given, refusalIn, tickIn, next}
+use Rattle.ledger.specs.Demand3.{Each}
+
+-- ---- what an answer carries
+-- its byte; 0 where the call answers none
+abbrev pub byteIn : Given → ℕ
+byteIn (ofRead r) = r .byte
+byteIn (ofWrite r) = 0
+byteIn (ofClock r) = 0
+byteIn (ofLevel r) = 0
+byteIn (ofForecast r) = 0
+byteIn (ofView bytes n) = 0
+
+-- its view's bytes
+abbrev pub viewIn : Given → List ℕ
+viewIn (ofRead r) = []
+viewIn (ofWrite r) = []
+viewIn (ofClock r) = []
+viewIn (ofLevel r) = []
+viewIn (ofForecast r) = []
+viewIn (ofView bytes n) = bytes
+
+-- its level, if it carries one
+abbrev pub levelsIn : Given → List Float
+levelsIn (ofRead r) = []
+levelsIn (ofWrite r) = []
+levelsIn (ofClock r) = []
+levelsIn (ofLevel r) = levelIn (r .level)
+levelsIn (ofForecast r) = []
+levelsIn (ofView bytes n) = []
+
+-- the forecast that is told: None is one, a refusal is none
+abbrev pub forecastTold : Forecast → List (Option ℕ)
+forecastTold None = none ∷ []
+forecastTold (In n) = some n ∷ []
+forecastTold (Refused n) = []
+
+-- its forecast, if it carries one
+abbrev pub forecastsIn : Given → List (Option ℕ)
+forecastsIn (ofRead r) = []
+forecastsIn (ofWrite r) = []
+forecastsIn (ofClock r) = []
+forecastsIn (ofLevel r) = []
+forecastsIn (ofForecast r) = forecastTold (r .forecast)
+forecastsIn (ofView bytes n) = []
+
+-- ---- refused
+-- an answer and the state that the call leaves: board and both buffers as given; byte 0, empty view, no tick, no level, no forecast (01, the
+-- table's first row)
+pub record GivenBack (x : State) (answer : Given) (left : State) : Type 0 where
+  pub state : left ≡ x
+  pub byte : byteIn answer ≡ 0
+  pub view : viewIn answer ≡ []
+  pub tick : tickIn answer ≡ false
+  pub level : levelsIn answer ≡ []
+  pub forecast : forecastsIn answer ≡ []
+
+-- of every call whose refusal number is not 0, whatever board and buffers
+abbrev pub RefusedLaw : Type 0
+RefusedLaw = (x : State) (k : Call) → (refusalIn (given x k) ≡ 0 → ⊥) → GivenBack x (given x k) (next x k)
+
+-- of create: an all-zero board
+abbrev pub RefusedCreateLaw : Type 0
+RefusedCreateLaw = (c : Creation) → (create c .refusal ≡ 0 → ⊥) → create c .board ≡ zeroBoard
+
+-- ---- the order of the numbers
+-- reads, writes and view: 1, 2, and by 3 the one entry that the address uses, with others that the call also checks (01)
+abbrev pub memoryChecks : Side → State → (address : ℕ) → (others : Bool) → List (Bool × ℕ)
+memoryChecks s x a others =
+    (withinLimits (x .board .layout), 1)
+    ∷ (lengthsFit (x .board .layout) (length (x .fixed)) (length (x .changing)), 2)
+    ∷ (others && entryInRange (x .board .layout) (entryOf s (x .board) a), 3)
+    ∷ []
+
+-- clock, reset, level and forecast: interrupt and sound only (01)
+abbrev pub engineChecks : State → List (Bool × ℕ)
+engineChecks x = (engineInRange (x .board), 3) ∷ []
+
+-- what each call checks, in order, with the number of each (01, "The board's calls")
+abbrev pub checks : State → Call → List (Bool × ℕ)
+checks x (CpuRead a) = memoryChecks cpu x a true
+checks x (CpuWrite a v) = memoryChecks cpu x a (registerChecks (x .board) a)
+checks x (LentCpuWrite a v) = memoryChecks cpu x a (registerChecks (x .board) a)
+checks x (PictureRead a) = memoryChecks picture x a true
+checks x (PictureWrite a v) = memoryChecks picture x a true
+checks x Clock = engineChecks x
+checks x LentClock = engineChecks x
+checks x SoftReset = engineChecks x
+checks x HardReset = engineChecks x
+checks x ReadLevel = engineChecks x
+checks x (PageView a) = memoryChecks picture x a true
+checks x ReadForecast = engineChecks x
+
+-- what create checks (01)
+abbrev pub createChecks : Creation → List (Bool × ℕ)
+createChecks c =
+    (withinLimits (c .layout), 1)
+    ∷ (lengthsFit (c .layout) (length (c .fixed)) (length (c .changing)), 2)
+    ∷ (allZero (take 1024 (c .fixed)), 4)
+    ∷ []
+
+-- a refusal number from checks: that of the first that fails, and 0 where all hold and only then (01: "when its condition holds and only then")
+pub record Numbered (ts : List (Bool × ℕ)) (n : ℕ) : Type 0 where
+  pub first : n ≡ firstFailing ts
+  pub only : (n ≡ 0) ↔ Each (λ t. t .0 ≡ true) ts
+
+-- of create, and of every call, whatever board and buffers
+pub record OrderLaw : Type 0 where
+  pub create-number : (c : Creation) → Numbered (createChecks c) (create c .refusal)
+  pub call-number : (x : State) (k : Call) → Numbered (checks x k) (refusalIn (given x k))

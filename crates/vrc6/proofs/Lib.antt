@@ -1,0 +1,4 @@
+pub mod Creations
+pub mod Engines
+pub mod Stores
+pub mod Zeros

@@ -1,0 +1,87 @@
+-- A board with its buffers, what creation is given, the new board and the all-zero one (01, Records and "The board's calls").
+-- Assumes nothing.
+use mathlib.Core.Bool.{false}
+use mathlib.Core.List.{List}
+use Prim.Native.Nat.{ℕ}
+use lib.ListN.{replicate}
+use Rattle.layout.specs.declared.page.Page.{Page}
+use Rattle.layout.specs.declared.regions.MemoryLayout.{MemoryLayout}
+use Rattle.layout.specs.Pages.{unmapped}
+use Rattle.paging.specs.Paging.{Side, cpu, picture, entryFor}
+use Rattle.banks.specs.declared.banking.Banking.{Banking}
+use Rattle.banks.specs.declared.banking.Mirroring.{Mirroring}
+use Rattle.banks.specs.declared.banking.Revision.{Revision}
+use Rattle.banks.specs.Banking.{firstBanking, zeroBanking}
+use Rattle.banks.specs.Tables.{cpuEntries, pictureEntries}
+use Rattle.vrc_irq.specs.declared.VrcIrq.{VrcIrq}
+use Rattle.vrc_irq.specs.Interrupt.{irqZero}
+use Rattle.audio.specs.declared.Audio.{Audio}
+use Rattle.audio.specs.Sound.{audioAt}
+use Rattle.vrc6.specs.declared.board.Board.{Board}
+
+-- a board, and the two buffers that it is lent
+pub record State : Type 0 where
+  pub board : Board
+  pub fixed : List ℕ
+  pub changing : List ℕ
+
+-- a board with its buffers
+abbrev pub heldBy : Board → (fixed changing : List ℕ) → State
+heldBy b f c = record { board = b; fixed = f; changing = c }
+
+-- what creation is given (01, "The board's calls")
+pub record Creation : Type 0 where
+  pub layout : MemoryLayout
+  pub mirroring : Mirroring
+  pub revision : Revision
+  pub fixed : List ℕ
+  pub changing : List ℕ
+
+-- a board whose entries all follow from its layout and its banking values (01, Banks and decode)
+abbrev pub paged : MemoryLayout → Banking → VrcIrq → Audio → Board
+paged l b q a =
+    record {
+      layout = l;
+      «prg_pages» = cpuEntries l b;
+      «chr_pages» = pictureEntries l b;
+      banking = b;
+      irq = q;
+      audio = a;
+    }
+
+-- a new board: all eleven registers 0, interrupt all 0, sound as `Audio::new` (01, Banks and decode)
+abbrev pub newBoard : MemoryLayout → Mirroring → Revision → Board
+newBoard l m r = paged l (firstBanking m r) irqZero (audioAt 1)
+
+-- the all-zero board that a refused create returns (01, "The board's calls")
+abbrev pub zeroBoard : Board
+zeroBoard =
+    record {
+      layout = record { «prg_rom» = 0; chr = 0; «chr_writable» = false; «prg_ram» = 0; ciram = 0 };
+      «prg_pages» = replicate 64 unmapped;
+      «chr_pages» = replicate 16 unmapped;
+      banking = zeroBanking;
+      irq = irqZero;
+      audio = audioAt 0;
+    }
+
+-- a board with another interrupt and another sound
+abbrev pub withEngine : Board → VrcIrq → Audio → Board
+withEngine b q a =
+    record {
+      layout = b .layout;
+      «prg_pages» = b .«prg_pages»;
+      «chr_pages» = b .«chr_pages»;
+      banking = b .banking;
+      irq = q;
+      audio = a;
+    }
+
+-- the CPU's table of a board, or the picture side's
+abbrev pub table : Side → Board → List Page
+table cpu b = b .«prg_pages»
+table picture b = b .«chr_pages»
+
+-- the one entry that serves an address
+abbrev pub entryOf : Side → Board → (address : ℕ) → Page
+entryOf s b address = entryFor s (table s b) address

@@ -1,0 +1,51 @@
+-- What each call checks: the number of its refusal, 0 for none (01, "The board's calls"). Assumes nothing.
+use mathlib.Core.Bool.{Bool, true, _&&_, _||_}
+use mathlib.Core.List.{List, [], _∷_, _++_}
+use Prim.Native.Nat.{ℕ}
+use lib.Dec.{eqb, ltb}
+use lib.ListN.{length, take}
+use Rattle.basics.specs.Refusals.{firstFailing}
+use Rattle.layout.specs.declared.regions.MemoryLayout.{MemoryLayout}
+use Rattle.layout.specs.Layout.{layoutChecks}
+use Rattle.paging.specs.Paging.{Side, cpu}
+use Rattle.memory.specs.Access.{accessRefusal}
+use Rattle.banks.specs.Banking.{bankingInRange}
+use Rattle.vrc_irq.specs.Board.{inRange}
+use Rattle.audio.specs.InRange.{audioInRange}
+use Rattle.vrc6.specs.declared.board.Board.{Board}
+use Rattle.vrc6.specs.Boards.{State, Creation, entryOf}
+
+-- every byte is 0
+abbrev pub allZero : List ℕ → Bool
+allZero [] = true
+allZero (x ∷ xs) = eqb x 0 && allZero xs
+
+-- create, of a layout and its buffers: conditions 1, 2 and 4
+abbrev pub creationRefusal : MemoryLayout → (fixed changing : List ℕ) → ℕ
+creationRefusal l fixed changing =
+    firstFailing (layoutChecks l (length fixed) (length changing) ++ (allZero (take 1024 fixed), 4) ∷ [])
+
+-- create, of what it is given
+abbrev pub createRefusal : Creation → ℕ
+createRefusal c = creationRefusal (c .layout) (c .fixed) (c .changing)
+
+-- interrupt and sound values are in range
+abbrev pub engineInRange : Board → Bool
+engineInRange b = inRange (b .irq) && audioInRange (b .audio)
+
+-- clock, reset, level and forecast: interrupt and sound only
+abbrev pub engineRefusal : Board → ℕ
+engineRefusal b = firstFailing ((engineInRange b, 3) ∷ [])
+
+-- reads, writes and view: 1, 2, and by 3 the one entry that the address uses, with others that the call also checks
+abbrev pub memoryRefusal : Side → State → (address : ℕ) → (others : Bool) → ℕ
+memoryRefusal s x address others =
+    accessRefusal (x .board .layout) (entryOf s (x .board) address) (length (x .fixed)) (length (x .changing)) others
+
+-- a CPU write from $8000 up also checks all banking, interrupt and sound values
+abbrev pub registerChecks : Board → (address : ℕ) → Bool
+registerChecks b address = ltb address 0x8000 || (bankingInRange (b .banking) && engineInRange b)
+
+-- a CPU write
+abbrev pub cpuWriteRefusal : State → (address : ℕ) → ℕ
+cpuWriteRefusal x address = memoryRefusal cpu x address (registerChecks (x .board) address)

@@ -1,0 +1,62 @@
+// The board, and the answers of its calls.
+use audio::Audio;
+use audio::Level;
+use banks::banking::Banking;
+use layout::MemoryLayout;
+use layout::Page;
+use vrc_irq::VrcIrq;
+
+pub struct Board {
+    pub layout: MemoryLayout,
+    pub prg_pages: [Page; 64],
+    pub chr_pages: [Page; 16],
+    pub banking: Banking,
+    pub irq: VrcIrq,
+    pub audio: Audio,
+}
+
+// Both act alike.
+pub enum ResetKind {
+    Soft,
+    Hard,
+}
+
+// The clocks until the interrupt, or the number of a refusal.
+pub enum Forecast {
+    None,
+    In(u32),
+    Refused(u8),
+}
+
+// The answers. A refusal is a number, 0 for none.
+pub struct Created {
+    pub board: Board,
+    pub refusal: u8,
+}
+
+pub struct ByteRead {
+    pub board: Board,
+    pub byte: u8,
+    pub refusal: u8,
+}
+
+pub struct Written {
+    pub board: Board,
+    pub refusal: u8,
+}
+
+pub struct Clocked {
+    pub board: Board,
+    pub ticked: bool,
+    pub refusal: u8,
+}
+
+pub struct Leveled {
+    pub board: Board,
+    pub level: Level,
+}
+
+pub struct Forecasted {
+    pub board: Board,
+    pub forecast: Forecast,
+}

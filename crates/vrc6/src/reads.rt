@@ -1,0 +1,70 @@
+// The calls that change nothing: CPU read, picture read, page view.
+use crate::board::Board;
+use crate::board::ByteRead;
+use layout::Page;
+use memory::access_refusal;
+use memory::peek;
+use memory::view;
+use paging::chr_table::chr_lookup;
+use paging::prg_table::prg_lookup;
+ghost use mathlib.Core.Path.{_≡_};
+ghost use Rattle.paging.specs.Paging.{cpu, picture};
+ghost use Rattle.vrc6.specs.Boards.{entryOf, heldBy};
+ghost use Rattle.vrc6.specs.Calls.{byteRead, pageView, pageViewRefusal};
+
+impl Board {
+    // The entry that serves a CPU address; an unmapped one shows the page of zeros.
+    pub(crate) fn cpu_page(self, addr: u16) -> Page
+        ensures { λ r. ⌜ r ≡ entryOf cpu self addr ⌝ }
+    {
+        let pages = self.prg_pages;
+        prg_lookup(pages, addr).page()
+    }
+
+    // The entry that serves a picture address.
+    pub(crate) fn picture_page(self, addr: u16) -> Page
+        ensures { λ r. ⌜ r ≡ entryOf picture self addr ⌝ }
+    {
+        let pages = self.chr_pages;
+        chr_lookup(pages, addr).page()
+    }
+
+    pub fn cpu_read(self, fixed: &[u8], changing: &[u8], addr: u16) -> ByteRead
+        ensures { λ r. ⌜ r ≡ byteRead cpu (heldBy self (now (fixed .entry)) (now (changing .entry))) addr ⌝ }
+    {
+        let page = self.cpu_page(addr);
+        let got = peek(self.layout, page, fixed, changing, addr);
+        ByteRead {
+            board: self,
+            byte: got.byte,
+            refusal: got.refusal,
+        }
+    }
+
+    pub fn picture_read(self, fixed: &[u8], changing: &[u8], addr: u16) -> ByteRead
+        ensures { λ r. ⌜ r ≡ byteRead picture (heldBy self (now (fixed .entry)) (now (changing .entry))) addr ⌝ }
+    {
+        let page = self.picture_page(addr);
+        let shown = peek(self.layout, page, fixed, changing, addr);
+        ByteRead {
+            board: self,
+            byte: shown.byte,
+            refusal: shown.refusal,
+        }
+    }
+
+    // Lends back the 1,024 bytes of whichever buffer the picture entry points into.
+    pub fn page_view<'a>(self, fixed: &'a [u8], changing: &'a [u8], addr: u16) -> &'a [u8]
+        ensures { λ r. ⌜ now r ≡ pageView (heldBy self (now (fixed .entry)) (now (changing .entry))) addr ⌝ }
+    {
+        view(self.layout, self.picture_page(addr), fixed, changing)
+    }
+
+    // The number of page_view's refusal, on the same arguments.
+    pub fn page_view_refusal(self, fixed: &[u8], changing: &[u8], addr: u16) -> u8
+        ensures { λ r. ⌜ r ≡ pageViewRefusal (heldBy self (now (fixed .entry)) (now (changing .entry))) addr ⌝ }
+    {
+        let page = self.picture_page(addr);
+        access_refusal(self.layout, page, fixed.len(), changing.len(), true)
+    }
+}

@@ -1,0 +1,114 @@
+// The calls that store a byte: CPU write, which then reaches a register, and picture write.
+use crate::board::Board;
+use crate::board::Written;
+use crate::engine::engine_in_range;
+use banks::tables::chr_pages;
+use banks::tables::prg_pages;
+use decode::BankRegister;
+use decode::IrqRegister;
+use decode::Register;
+use decode::decode;
+use memory::access_refusal;
+use memory::store;
+use memory::write;
+use vrc_irq::VrcIrq;
+ghost use mathlib.Core.Path.{_≡_};
+ghost use Rattle.layout.specs.Inner.{Limits};
+ghost use Rattle.banks.specs.Banking.{bankWritten};
+ghost use Rattle.vrc6.specs.Boards.{heldBy, paged};
+ghost use Rattle.vrc6.specs.Checks.{registerChecks};
+ghost use Rattle.vrc6.specs.Calls.{cpuWrite, cpuWriteLeft, irqWritten, pictureWrite, pictureWriteLeft, writtenAt};
+
+// An interrupt register takes a byte.
+fn write_irq(irq: VrcIrq, register: IrqRegister, val: u8) -> VrcIrq
+    ensures { λ r. ⌜ r ≡ irqWritten register val irq ⌝ }
+{
+    match register {
+        IrqRegister::Reload => irq.write_reload(val),
+        IrqRegister::Control => irq.write_control(val),
+        IrqRegister::Acknowledge => irq.acknowledge(),
+    }
+}
+
+impl Board {
+    // A bank register takes a byte, and every entry is rebuilt from the banking values.
+    fn write_bank(self, register: BankRegister, val: u8) -> Board
+        requires { ⌜ Limits (self .layout) ⌝ }
+        ensures { λ r. ⌜ r ≡ paged (self .layout) (bankWritten register val (self .banking)) (self .irq) (self .audio) ⌝ }
+    {
+        let layout = self.layout;
+        let banking = self.banking.write_bank(register, val);
+        let prg = prg_pages(layout, banking);
+        let chr = chr_pages(layout, banking);
+        let mut board = self;
+        board.banking = banking;
+        board.prg_pages = prg;
+        board.chr_pages = chr;
+        board
+    }
+
+    // The register that a CPU write reaches takes its byte.
+    fn write_register(self, addr: u16, val: u8) -> Board
+        requires { ⌜ Limits (self .layout) ⌝ }
+        ensures { λ r. ⌜ r ≡ writtenAt self addr val ⌝ }
+    {
+        let banking = self.banking;
+        match decode(banking.revision, addr) {
+            Register::Nothing => self,
+            Register::OfBank(register) => self.write_bank(register, val),
+            Register::OfAudio(register) => {
+                let audio = self.audio.write_register(register, val);
+                let mut board = self;
+                board.audio = audio;
+                board
+            }
+            Register::OfIrq(register) => {
+                let irq = write_irq(self.irq, register, val);
+                let mut board = self;
+                board.irq = irq;
+                board
+            }
+        }
+    }
+
+    // Whether what a CPU write checks beside its entry is in range: from $8000 up all banking, interrupt and sound values.
+    fn register_checks(self, addr: u16) -> bool
+        ensures { λ r. ⌜ r ≡ registerChecks self addr ⌝ }
+    {
+        if addr < 0x8000 {
+            return true;
+        }
+        self.banking.in_range() & engine_in_range(self.irq, self.audio)
+    }
+
+    // The byte through the entries as they were, then the register.
+    pub fn cpu_write(self, fixed: &[u8], changing: &mut [u8], addr: u16, val: u8) -> Written
+        ensures { λ r. ⌜ r ≡ cpuWrite (heldBy self (now (fixed .entry)) (now (changing .entry))) addr val ⌝ }
+        ensures { λ _. ⌜ now (changing .exit) ≡ cpuWriteLeft (heldBy self (now (fixed .entry)) (now (changing .entry))) addr val .changing ⌝ }
+    {
+        let page = self.cpu_page(addr);
+        let others = self.register_checks(addr);
+        let refusal = access_refusal(self.layout, page, fixed.len(), changing.len(), others);
+        if refusal != 0 {
+            return Written {
+                board: self,
+                refusal,
+            };
+        }
+        store(page, fixed.len(), changing, addr, val);
+        let board = self.write_register(addr, val);
+        Written { board, refusal }
+    }
+
+    pub fn picture_write(self, fixed: &[u8], changing: &mut [u8], addr: u16, val: u8) -> Written
+        ensures { λ r. ⌜ r ≡ pictureWrite (heldBy self (now (fixed .entry)) (now (changing .entry))) addr val ⌝ }
+        ensures { λ _. ⌜ now (changing .exit) ≡ pictureWriteLeft (heldBy self (now (fixed .entry)) (now (changing .entry))) addr val .changing ⌝ }
+    {
+        let page = self.picture_page(addr);
+        let refusal = write(self.layout, page, fixed, changing, addr, val);
+        Written {
+            board: self,
+            refusal,
+        }
+    }
+}
