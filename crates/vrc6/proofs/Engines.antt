@@ -19,7 +19,8 @@ use Rattle.vrc6.specs.declared.board.Forecast.the-variants.{Refused}
 use Rattle.vrc6.specs.declared.engine.EngineClocked.{EngineClocked}
 use Rattle.vrc6.specs.Boards.{withEngine}
 use Rattle.vrc6.specs.Calls.{clock, reset, level, forecast, forecastOf, wasReset}
-use Rattle.vrc6.specs.Parts.{engineOk, engineNumber, engineClocked}
+use Rattle.vrc6.specs.Checks.{engineOk, engineNumber}
+use Rattle.vrc6.specs.Parts.{engineClocked}
 
 -- what a call gives by its test, where it does that where the test holds, and this where it is refused by 3
 module _ {A : Type 0} (f : ℕ → A) where

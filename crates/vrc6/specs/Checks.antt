@@ -10,7 +10,9 @@ use Rattle.layout.specs.Layout.{layoutChecks}
 use Rattle.paging.specs.Paging.{Side, cpu}
 use Rattle.memory.specs.Access.{accessRefusal}
 use Rattle.banks.specs.Banking.{bankingInRange}
+use Rattle.vrc_irq.specs.declared.VrcIrq.{VrcIrq}
 use Rattle.vrc_irq.specs.Board.{inRange}
+use Rattle.audio.specs.declared.Audio.{Audio}
 use Rattle.audio.specs.InRange.{audioInRange}
 use Rattle.vrc6.specs.declared.board.Board.{Board}
 use Rattle.vrc6.specs.Boards.{State, Creation, entryOf}
@@ -30,12 +32,20 @@ abbrev pub createRefusal : Creation → ℕ
 createRefusal c = creationRefusal (c .layout) (c .fixed) (c .changing)
 
 -- interrupt and sound values are in range
+abbrev pub engineOk : VrcIrq → Audio → Bool
+engineOk q a = inRange q && audioInRange a
+
+-- the refusal of a call that checks interrupt and sound only
+abbrev pub engineNumber : VrcIrq → Audio → ℕ
+engineNumber q a = firstFailing ((engineOk q a, 3) ∷ [])
+
+-- those of a board
 abbrev pub engineInRange : Board → Bool
-engineInRange b = inRange (b .irq) && audioInRange (b .audio)
+engineInRange b = engineOk (b .irq) (b .audio)
 
 -- clock, reset, level and forecast: interrupt and sound only
 abbrev pub engineRefusal : Board → ℕ
-engineRefusal b = firstFailing ((engineInRange b, 3) ∷ [])
+engineRefusal b = engineNumber (b .irq) (b .audio)
 
 -- reads, writes and view: 1, 2, and by 3 the one entry that the address uses, with others that the call also checks
 abbrev pub memoryRefusal : Side → State → (address : ℕ) → (others : Bool) → ℕ

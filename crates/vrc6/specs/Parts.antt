@@ -1,22 +1,12 @@
 -- A clock of interrupt and sound alone, which the board is put around. Assumes nothing.
-use mathlib.Core.Bool.{Bool, false, _&&_}
-use mathlib.Core.List.{[], _∷_}
-use Prim.Native.Nat.{ℕ}
-use Rattle.basics.specs.Refusals.{firstFailing, unless}
+use mathlib.Core.Bool.{false}
+use Rattle.basics.specs.Refusals.{unless}
 use Rattle.vrc_irq.specs.declared.VrcIrq.{VrcIrq}
-use Rattle.vrc_irq.specs.Board.{inRange, clockAnswer}
+use Rattle.vrc_irq.specs.Board.{clockAnswer}
 use Rattle.audio.specs.declared.Audio.{Audio}
-use Rattle.audio.specs.InRange.{audioInRange}
 use Rattle.audio.specs.Sound.{audioClocked}
+use Rattle.vrc6.specs.Checks.{engineNumber}
 use Rattle.vrc6.specs.declared.engine.EngineClocked.{EngineClocked}
-
--- interrupt and sound values are in range
-abbrev pub engineOk : VrcIrq → Audio → Bool
-engineOk q a = inRange q && audioInRange a
-
--- the refusal of a clock
-abbrev pub engineNumber : VrcIrq → Audio → ℕ
-engineNumber q a = firstFailing ((engineOk q a, 3) ∷ [])
 
 -- interrupt and sound after a clock, as given where it is refused
 abbrev pub engineClocked : VrcIrq → Audio → EngineClocked

@@ -12,7 +12,8 @@ use vrc_irq::IrqForecast;
 use vrc_irq::VrcIrq;
 ghost use mathlib.Core.Path.{_≡_};
 ghost use Rattle.vrc6.specs.Calls.{clock, forecast, forecastOf, level, reset};
-ghost use Rattle.vrc6.specs.Parts.{engineClocked, engineOk};
+ghost use Rattle.vrc6.specs.Checks.{engineOk};
+ghost use Rattle.vrc6.specs.Parts.{engineClocked};
 
 // Interrupt and sound after a clock, whether it ticked, and the refusal's number.
 pub struct EngineClocked {
