@@ -27,15 +27,17 @@ passed true true ts h = (refl, refl, refl)
 passed true false ts h = absurd (omega arith)
 passed false b ts h = absurd (omega arith)
 
-clear : (a b c : Bool) → firstFailing ((a, 1) ∷ (b, 2) ∷ (c, 3) ∷ []) ≡ 0 → (a ≡ true) × (b ≡ true) × (c ≡ true)
-clear true true true h = (refl, refl, refl)
-clear true true false h = absurd (omega arith)
-clear true false c h = absurd (omega arith)
-clear false b c h = absurd (omega arith)
+-- no refusal by 1, 2 or n: all three tests hold
+pub clear : (a b c : Bool) (n : ℕ) → (n ≡ 0 → ⊥) → firstFailing ((a, 1) ∷ (b, 2) ∷ (c, n) ∷ []) ≡ 0
+    → (a ≡ true) × (b ≡ true) × (c ≡ true)
+clear true true true n k h = (refl, refl, refl)
+clear true true false n k h = absurd (k h)
+clear true false c n k h = absurd (omega arith)
+clear false b c n k h = absurd (omega arith)
 
 module _ (l : MemoryLayout) (e : Page) (fixed changing : ℕ) (others : Bool) (none : accessRefusal l e fixed changing others ≡ 0) where
   all : (withinLimits l ≡ true) × (lengthsFit l fixed changing ≡ true) × ((others && entryInRange l e) ≡ true)
-  all = clear (withinLimits l) (lengthsFit l fixed changing) (others && entryInRange l e) none
+  all = clear (withinLimits l) (lengthsFit l fixed changing) (others && entryInRange l e) 3 (λ z. omega arith) none
 
   pub within : Limits l
   within = limits l (all .0)

@@ -1,31 +1,23 @@
 -- The answer of create, from its refusal number. Assumes nothing.
-use mathlib.Core.Path.{_≡_, refl, sym, ap, _∙_}
-use mathlib.Core.Bool.{Bool, true, false}
-use mathlib.Core.List.{List, [], _∷_, _++_}
+use mathlib.Core.Path.{_≡_, sym}
+use mathlib.Core.List.{List}
 use Prim.Native.Nat.{ℕ}
 use native.Mathlib.Omega.{arith}
 use lib.ListN.{length, take}
-use Rattle.basics.specs.Refusals.{firstFailing}
 use Rattle.basics.proofs.Tests.{unless-refused, unless-done}
 use Rattle.layout.specs.declared.regions.MemoryLayout.{MemoryLayout}
 use Rattle.layout.specs.Layout.{withinLimits, lengthsFit}
 use Rattle.layout.specs.Inner.{Limits}
 use Rattle.layout.proofs.Limited.{limits}
+use Rattle.memory.proofs.Accepted.{clear}
 use Rattle.vrc6.specs.Boards.{Creation, newBoard, zeroBoard}
 use Rattle.vrc6.specs.Checks.{allZero, creationRefusal, createRefusal}
 use Rattle.vrc6.specs.Calls.{create}
 
--- the three tests of a creation that is not refused
-pub cleared : (a b d : Bool) → firstFailing ((a, 1) ∷ (b, 2) ∷ (d, 4) ∷ []) ≡ 0 → (a ≡ true) × (b ≡ true) × (d ≡ true)
-cleared true true true h = (refl, refl, refl)
-cleared true true false h = absurd (omega arith)
-cleared true false d h = absurd (omega arith)
-cleared false b d h = absurd (omega arith)
-
--- its layout is within the limits
+-- the layout of a creation that is not refused is within the limits
 pub within : (l : MemoryLayout) (fixed changing : List ℕ) → creationRefusal l fixed changing ≡ 0 → Limits l
 within l fixed changing h =
-    limits l (cleared (withinLimits l) (lengthsFit l (length fixed) (length changing)) (allZero (take 1024 fixed)) h .0)
+    limits l (clear (withinLimits l) (lengthsFit l (length fixed) (length changing)) (allZero (take 1024 fixed)) 4 (λ z. omega arith) h .0)
 
 module _ (c : Creation) (n : ℕ) (e : n ≡ createRefusal c) where
   pub created-refused : (n ≡ 0 → ⊥) → record { board = zeroBoard; refusal = n } ≡ create c
