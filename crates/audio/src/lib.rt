@@ -59,6 +59,7 @@ fn level_name(enabled: bool, halt: bool, output: f32) -> Level
     }
 }
 
+#[repr(C)]
 pub struct Audio {
     pub pulse1: Pulse,
     pub pulse2: Pulse,

@@ -7,6 +7,7 @@ ghost use Rattle.audio.specs.Pulses.{pulseAt, pulseWritten, pulseShifted
 ghost use Rattle.audio.specs.InRange.{pulseInRange};
 ghost use Rattle.audio.specs.Ranges.{PulseIn};
 
+#[repr(C)]
 pub struct Pulse {
     pub enabled: bool,
     pub volume: u8,

@@ -7,6 +7,7 @@ ghost use Rattle.audio.specs.Saws.{sawAt, sawWritten, sawShifted, sawClo
 ghost use Rattle.audio.specs.InRange.{sawInRange};
 ghost use Rattle.audio.specs.Ranges.{SawIn};
 
+#[repr(C)]
 pub struct Saw {
     pub enabled: bool,
     pub accum: u8,

@@ -24,6 +24,7 @@ pub enum Revision {
     B,
 }
 
+#[repr(C)]
 pub struct Banking {
     pub banking_mode: u8,
     // The 16 KiB bank at $8000 and the 8 KiB bank at $C000.

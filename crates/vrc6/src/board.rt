@@ -6,6 +6,7 @@ use layout::MemoryLayout;
 use layout::Page;
 use vrc_irq::VrcIrq;
 
+#[repr(C)]
 pub struct Board {
     pub layout: MemoryLayout,
     pub prg_pages: [Page; 64],

@@ -83,8 +83,8 @@ impl Board {
 
     // The byte through the entries as they were, then the register.
     pub fn cpu_write(self, fixed: &[u8], changing: &mut [u8], addr: u16, val: u8) -> Written
-        ensures { λ r. ⌜ r ≡ cpuWrite (heldBy self (now (fixed .entry)) (now (changing .entry))) addr val ⌝ }
-        ensures { λ _. ⌜ now (changing .exit) ≡ cpuWriteLeft (heldBy self (now (fixed .entry)) (now (changing .entry))) addr val .changing ⌝ }
+        ensures { λ r. ⌜ (r ≡ cpuWrite (heldBy self (now (fixed .entry)) (now (changing .entry))) addr val)
+            × (now (changing .exit) ≡ cpuWriteLeft (heldBy self (now (fixed .entry)) (now (changing .entry))) addr val .changing) ⌝ }
     {
         let page = self.cpu_page(addr);
         let others = self.register_checks(addr);
@@ -101,8 +101,8 @@ impl Board {
     }
 
     pub fn picture_write(self, fixed: &[u8], changing: &mut [u8], addr: u16, val: u8) -> Written
-        ensures { λ r. ⌜ r ≡ pictureWrite (heldBy self (now (fixed .entry)) (now (changing .entry))) addr val ⌝ }
-        ensures { λ _. ⌜ now (changing .exit) ≡ pictureWriteLeft (heldBy self (now (fixed .entry)) (now (changing .entry))) addr val .changing ⌝ }
+        ensures { λ r. ⌜ (r ≡ pictureWrite (heldBy self (now (fixed .entry)) (now (changing .entry))) addr val)
+            × (now (changing .exit) ≡ pictureWriteLeft (heldBy self (now (fixed .entry)) (now (changing .entry))) addr val .changing) ⌝ }
     {
         let page = self.picture_page(addr);
         let refusal = write(self.layout, page, fixed, changing, addr, val);

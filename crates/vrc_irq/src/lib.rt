@@ -9,6 +9,7 @@ pub const STEP: u16 = 3;
 // What a line gives it.
 pub const LINE: u16 = 341;
 
+#[repr(C)]
 pub struct VrcIrq {
     pub reload: u8,
     pub counter: u8,
