@@ -1,0 +1,12 @@
+// The lines of a script, one call of the board each, and what playing one needs: the byte that fills a buffer, and
+// the hash of bytes that an answer prints.
+pub mod arguments;
+pub mod fill;
+pub mod fnv;
+pub mod line;
+pub mod number;
+pub mod words;
+
+pub use line::Command;
+pub use line::Setup;
+pub use line::parse;
