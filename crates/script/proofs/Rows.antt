@@ -9,22 +9,22 @@ use Rattle.script.specs.Laws.{Examples}
 pub examples : Examples
 unfolding addressed byteWritten callOf choiceAfter clockCount commandOf created numberAfter numberOf resetOf wrongAfter
 examples =
-    record
-    { hash-a = refl
-    ; hash-foobar = refl
-    ; fill-1024 = refl
-    ; read = refl
-    ; write = refl
-    ; hard = refl
-    ; clocks = refl
-    ; comment = refl
-    ; blank = refl
-    ; unknown = refl
-    ; missing = refl
-    ; no-number = refl
-    ; no-decimal = refl
-    ; too-large = refl
-    ; too-many = refl
-    ; no-choice = refl
-    ; create = refl
+    record {
+      hash-a = refl;
+      hash-foobar = refl;
+      fill-1024 = refl;
+      read = refl;
+      write = refl;
+      hard = refl;
+      clocks = refl;
+      comment = refl;
+      blank = refl;
+      unknown = refl;
+      missing = refl;
+      no-number = refl;
+      no-decimal = refl;
+      too-large = refl;
+      too-many = refl;
+      no-choice = refl;
+      create = refl;
     }
