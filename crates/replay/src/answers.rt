@@ -89,7 +89,7 @@ pub fn put_view(out: &mut [u8; ROOM], len: usize, hash: u32) -> usize {
     put_line_end(out, b)
 }
 
-// The answer of every call but a page view; view is that one's hash.
+// A call's answer; view is the hash of a page view's bytes.
 pub fn put_answer(
     out: &mut [u8; ROOM],
     len: usize,

@@ -125,7 +125,7 @@ pub fn put_line_end(out: &mut [u8; ROOM], len: usize) -> usize {
     put(out, len, b'\n')
 }
 
-// The bits of a sum or a level. None of them is a NaN, of which bits can't be asked.
+// The bits of a sum or a level, which are all below 64. A NaN's bits can't be asked for, and it is below nothing.
 pub fn bits(x: f32) -> u32 {
     if x < 64.0 {
         return f32::to_bits(x);

@@ -1,6 +1,6 @@
 -- A word's digits read one after the other, the value kept below a cap: what a loop has read so far, and what it answers. Assumes nothing.
 use mathlib.Core.Path.{_≡_, refl, sym, ap, _∙_}
-use mathlib.Core.Bool.{Bool, true, false, cond, _&&_, false≢true}
+use mathlib.Core.Bool.{Bool, true, false, cond, _&&_}
 use mathlib.Core.List.{List, [], _∷_, _++_, foldl-append}
 use Prim.Native.Nat.{ℕ, suc, _+_, _*_, _^_, _≤_, _<_}
 use native.Mathlib.Omega.{arith}
@@ -11,7 +11,6 @@ use lib.Dec.{leb, ltb}
 use lib.ListN.{length, take, drop, getD}
 use lib.Seq.{take-suc, take-all, split-at}
 use Rattle.basics.proofs.Tests.{and-left, and-right, both, tested}
-use Rattle.script.specs.declared.number.Number.{Number}
 use Rattle.script.specs.declared.number.Number.the-variants.{Value, NoNumber, TooLarge}
 use Rattle.script.specs.Numbers.{areDigits, between, capped, digitOf, limited, numberOf, valueOf}
 
@@ -110,7 +109,6 @@ number-empty base limit (b ∷ bs) h = absurd (omega arith)
 -- a byte that is no digit of the base
 pub no-digit : (base limit : ℕ) (w : List ℕ) (i d : ℕ) → i < length w → d ≡ digitOf (getD w i 0) → base ≤ d → NoNumber ≡ numberOf base limit w
 no-digit base limit w i d k e large =
-    let x : ℕ = getD w i 0 in
     let fails : ltb (digitOf (getD w i 0)) base ≡ false = le-ltb (digitOf (getD w i 0)) base (omega (arith, e, large)) in
     let tail : areDigits base (getD w i 0 ∷ drop (suc i) w) ≡ false = ap (λ (t : Bool). t && areDigits base (drop (suc i) w)) fails in
     let all : areDigits base w ≡ false =
@@ -137,7 +135,6 @@ module _ (base limit : ℕ) (w : List ℕ) (i v : ℕ) (r : Read base w i v) (en
 
   pub in-limit : v ≤ limit → limit < 2 ^ 32 → Value v ≡ numberOf base limit w
   in-limit h k =
-      let all : ℕ = valueOf base w in
       tested (leb (valueOf base w) (2 ^ 32))
       (λ e.
       let same : v ≡ valueOf base w = value ∙ capped-small (valueOf base w) e in

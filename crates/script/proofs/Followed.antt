@@ -1,5 +1,5 @@
 -- What follows an argument, by the tests that the code makes. Assumes nothing.
-use mathlib.Core.Path.{_≡_, refl, sym, ap, ap₂, subst, _∙_}
+use mathlib.Core.Path.{_≡_, sym, ap, ap₂, subst, _∙_}
 use mathlib.Core.Bool.{Bool, true, false, cond, _&&_}
 use mathlib.Core.List.{List, [], _∷_}
 use Prim.Native.Nat.{ℕ, _-_, _≤_, _<_}
@@ -11,7 +11,7 @@ use lib.ListN.{length, take, drop, getD, length-drop}
 use lib.Seq.{length-take-le, getD-take, getD-drop}
 use Rattle.basics.proofs.Tests.{either, tested}
 use Rattle.script.specs.declared.number.Number.{Number}
-use Rattle.script.specs.declared.number.Number.the-variants.{Value, NoNumber, TooLarge}
+use Rattle.script.specs.declared.number.Number.the-variants.{NoNumber}
 use Rattle.script.specs.Numbers.{areDigits, limited, numberOf, valueOf}
 use Rattle.script.specs.Places.{Found}
 use Rattle.script.specs.Readings.{Reading, choiceAfter, chosen, fault, following, isLetter, judged, numberAfter, right, wrongAfter}

@@ -1,6 +1,5 @@
 -- The examples, computed. Assumes nothing.
 use mathlib.Core.Path.{refl}
-use Rattle.script.specs.Fill.{fillByte}
 use Rattle.script.specs.Lines.{addressed, byteWritten, callOf, clockCount, commandOf, created, resetOf}
 use Rattle.script.specs.Numbers.{numberOf}
 use Rattle.script.specs.Readings.{choiceAfter, numberAfter, wrongAfter}

@@ -1,5 +1,5 @@
 -- What a line says, by the tests that the code makes. Assumes nothing.
-use mathlib.Core.Path.{_≡_, refl, sym, ap, ap₂, subst, _∙_}
+use mathlib.Core.Path.{_≡_, sym, ap, ap₂, subst, _∙_}
 use mathlib.Core.List.{List}
 use Prim.Native.Nat.{ℕ, _-_, _<_}
 use native.Mathlib.Omega.{arith}
@@ -10,7 +10,7 @@ use Rattle.script.specs.declared.line.Command.the-variants.{Nothing, Bad
 use Rattle.script.specs.Lines.{begun, callOf, commandOf, created, createdFrom, decimalAfter, hexadecimalAfter, largest}
 use Rattle.script.specs.Places.{Found}
 use Rattle.script.specs.Readings.{Reading, choiceAfter}
-use Rattle.script.specs.Words.{fromWord, pastWord, wordOf}
+use Rattle.script.specs.Words.{fromWord, wordOf}
 use Rattle.script.proofs.Followed.{empty, there, letter, size}
 
 -- a creation from its first arguments, the later ones read on

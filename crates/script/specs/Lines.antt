@@ -1,5 +1,5 @@
 -- What a line of a script is: nothing, a call with its arguments, or wrong (FORMAT.md). Assumes nothing.
-use mathlib.Core.Bool.{Bool, cond}
+use mathlib.Core.Bool.{cond}
 use mathlib.Core.List.{List}
 use Prim.Native.Nat.{ℕ}
 use lib.Dec.{eqb}

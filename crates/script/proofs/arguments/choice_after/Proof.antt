@@ -1,6 +1,5 @@
 -- `choice_after` meets its contract. Assumes nothing.
 use mathlib.Core.Path.{ap, _∙_}
-use native.Mathlib.Omega.{arith}
 use borrow.Author.Needs.{needs}
 use denote.Ref.{now}
 use Rattle.script.specs.Readings.{choiceAfter, chosen, readingIn}

@@ -1,12 +1,11 @@
 -- `number_after` meets its contract. Assumes nothing.
-use mathlib.Core.Path.{sym, ap, _∙_}
+use mathlib.Core.Path.{ap, _∙_}
 use mathlib.Core.List.{List}
 use Prim.Native.Nat.{ℕ}
-use native.Mathlib.Omega.{arith}
 use borrow.Author.Needs.{needs}
 use denote.Ref.{now}
 use lib.ListN.{drop}
-use Rattle.script.specs.Readings.{readingIn, chosen, judged}
+use Rattle.script.specs.Readings.{readingIn, judged}
 use Rattle.script.specs.Numbers.{numberOf}
 use Rattle.script.proofs.Followed.{carried, missing, taken-at, numbered}
 use Rattle.script.proofs.arguments.number_after.Statement.{statement}

@@ -1,13 +1,9 @@
 -- `of_number` meets its contract. Assumes nothing.
 use mathlib.Core.Path.{sym, ap, _∙_}
-use mathlib.Core.List.{List}
-use Prim.Native.Nat.{ℕ}
-use native.Mathlib.Omega.{arith}
 use borrow.Author.Needs.{needs}
 use denote.Ref.{now}
 use lib.ListN.{drop}
-use Rattle.script.specs.Readings.{readingIn, chosen, judged}
-use Rattle.script.specs.Numbers.{numberOf}
+use Rattle.script.specs.Readings.{readingIn, judged}
 use Rattle.script.proofs.arguments.of_number.Statement.{statement}
 use Rattle.script.proofs.arguments.of_number.Tie as tie
 

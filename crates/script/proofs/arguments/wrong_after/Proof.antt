@@ -1,5 +1,4 @@
 -- `wrong_after` meets its contract. Assumes nothing.
-use native.Mathlib.Omega.{arith}
 use borrow.Author.Needs.{needs}
 use denote.Ref.{now}
 use Rattle.script.specs.Readings.{readingIn}

@@ -1,6 +1,5 @@
 -- `fill` meets its contract. Assumes nothing.
 use Prim.Native.Nat.{_-_}
-use native.Mathlib.Omega.{arith}
 use borrow.Author.Needs.{needs}
 use lib.ListN.{length}
 use Rattle.script.proofs.Filling.{Filling, none, more, done}

@@ -1,5 +1,4 @@
 -- `fnv_word` meets its contract. Assumes nothing.
-use native.Mathlib.Omega.{arith}
 use borrow.Author.Needs.{needs}
 use Rattle.script.proofs.fnv.fnv_word.Statement.{statement}
 use Rattle.script.proofs.fnv.fnv_word.Tie as tie

@@ -1,10 +1,8 @@
 -- `alone` meets its contract. Assumes nothing.
-use mathlib.Core.Path.{sym, ap, _∙_}
+use mathlib.Core.Path.{ap, _∙_}
 use Prim.Native.Nat.{ℕ}
-use native.Mathlib.Omega.{arith}
 use borrow.Author.Needs.{needs}
 use denote.Ref.{now}
-use lib.ListN.{drop}
 use Rattle.script.specs.Readings.{readingIn, wrongAfter}
 use Rattle.script.specs.Lines.{unlessWrong}
 use Rattle.script.specs.declared.arguments.Argument.{Argument}

@@ -1,15 +1,12 @@
 -- `at_address` meets its contract. Assumes nothing.
-use mathlib.Core.Path.{sym, ap, _∙_}
+use mathlib.Core.Path.{ap, _∙_}
 use Prim.Native.Nat.{ℕ}
-use native.Mathlib.Omega.{arith}
 use borrow.Author.Needs.{needs}
 use denote.Ref.{now}
-use lib.ListN.{drop}
 use Rattle.script.specs.Readings.{readingIn, wrongAfter}
 use Rattle.script.specs.Lines.{addressed, addressedFrom, hexadecimalAfter, unlessWrong}
 use Rattle.script.specs.declared.arguments.Argument.{Argument}
 use Rattle.calls.specs.declared.Call.{Call}
-use Rattle.script.specs.declared.line.Command.{Command}
 use Rattle.script.specs.declared.line.Command.the-variants.{Play}
 use Rattle.script.proofs.line.at_address.Statement.{statement}
 use Rattle.script.proofs.line.at_address.Tie as tie

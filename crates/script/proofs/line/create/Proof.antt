@@ -1,14 +1,12 @@
 -- `create` meets its contract. Assumes nothing.
-use mathlib.Core.Path.{sym, ap, _∙_}
+use mathlib.Core.Path.{ap, _∙_}
 use Prim.Native.Nat.{ℕ}
-use native.Mathlib.Omega.{arith}
 use borrow.Author.Needs.{needs}
 use denote.Ref.{now}
 use lib.ListN.{drop}
 use Rattle.script.specs.Readings.{readingIn}
 use Rattle.script.specs.Lines.{decimalAfter, largest, setupOf, unlessWrong}
 use Rattle.script.specs.declared.arguments.Argument.{Argument}
-use Rattle.script.specs.declared.line.Command.{Command}
 use Rattle.script.specs.declared.line.Command.the-variants.{Create}
 use Rattle.script.proofs.Said.{creates}
 use Rattle.script.proofs.line.create.Statement.{statement}

@@ -1,12 +1,6 @@
 -- `parse` meets its contract. Assumes nothing.
-use mathlib.Core.Path.{sym, ap, _∙_}
-use Prim.Native.Nat.{ℕ}
-use native.Mathlib.Omega.{arith}
+use mathlib.Core.Path.{_∙_}
 use borrow.Author.Needs.{needs}
-use denote.Ref.{now}
-use lib.ListN.{drop}
-use Rattle.script.specs.Readings.{readingIn}
-use Rattle.script.specs.Lines.{commandOf}
 use Rattle.script.proofs.Said.{blank, comment, call, unknown}
 use Rattle.script.proofs.line.parse.Statement.{statement}
 use Rattle.script.proofs.line.parse.Tie as tie

@@ -1,15 +1,12 @@
 -- `with_byte` meets its contract. Assumes nothing.
-use mathlib.Core.Path.{sym, ap, _∙_}
+use mathlib.Core.Path.{ap, _∙_}
 use Prim.Native.Nat.{ℕ}
-use native.Mathlib.Omega.{arith}
 use borrow.Author.Needs.{needs}
 use denote.Ref.{now}
-use lib.ListN.{drop}
 use Rattle.script.specs.Readings.{Reading, readingIn, wrongAfter}
 use Rattle.script.specs.Lines.{byteWritten, byteWrittenFrom, hexadecimalAfter, unlessWrong}
 use Rattle.script.specs.declared.arguments.Argument.{Argument}
 use Rattle.calls.specs.declared.Call.{Call}
-use Rattle.script.specs.declared.line.Command.{Command}
 use Rattle.script.specs.declared.line.Command.the-variants.{Play}
 use Rattle.script.proofs.line.with_byte.Statement.{statement}
 use Rattle.script.proofs.line.with_byte.Tie as tie

@@ -1,5 +1,4 @@
 -- `next_word` meets its contract. Assumes nothing.
-use native.Mathlib.Omega.{arith}
 use borrow.Author.Needs.{needs}
 use Rattle.script.proofs.Spans.{between, nothing}
 use Rattle.script.proofs.words.next_word.Statement.{statement}
