@@ -1,13 +1,13 @@
 // Create: its refusals 1, 2 and 4, the all-zero board that they return, and what an accepted one holds.
-use crate::comparing::checksum;
-use crate::playing::Changing;
-use crate::playing::cpu_entry;
-use crate::playing::flag;
-use crate::playing::layout_s;
-use crate::playing::mirroring;
-use crate::playing::nametables;
-use crate::tally::Tally;
-use crate::tally::heading;
+use rows::comparing::checksum;
+use rows::playing::Changing;
+use rows::playing::cpu_entry;
+use rows::playing::flag;
+use rows::playing::layout_s;
+use rows::playing::mirroring;
+use rows::playing::nametables;
+use rows::tally::Tally;
+use rows::tally::heading;
 use banks::banking::Mirroring;
 use banks::banking::Revision;
 use layout::MemoryLayout;

@@ -1,14 +1,14 @@
 // Page entries and nametable numbers: the reference positions of document 01, and the mirroring values of the wiki.
-use crate::playing::Changing;
-use crate::playing::board_s;
-use crate::playing::board_s_b;
-use crate::playing::cpu_entry;
-use crate::playing::mirroring;
-use crate::playing::nametables;
-use crate::playing::picture_entry;
-use crate::playing::write;
-use crate::tally::Tally;
-use crate::tally::heading;
+use rows::playing::Changing;
+use rows::playing::board_s;
+use rows::playing::board_s_b;
+use rows::playing::cpu_entry;
+use rows::playing::mirroring;
+use rows::playing::nametables;
+use rows::playing::picture_entry;
+use rows::playing::write;
+use rows::tally::Tally;
+use rows::tally::heading;
 use banks::banking::Mirroring;
 use banks::banking::Revision;
 use layout::MemoryLayout;

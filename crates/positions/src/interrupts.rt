@@ -1,15 +1,15 @@
 // The interrupt: the reference positions of document 01, the wiki's line interrupts, and forecasts.
-use crate::playing::Changing;
-use crate::playing::board_s;
-use crate::playing::clocked;
-use crate::playing::clocks;
-use crate::playing::cpu_entry;
-use crate::playing::flag;
-use crate::playing::write;
+use rows::playing::Changing;
+use rows::playing::board_s;
+use rows::playing::clocked;
+use rows::playing::clocks;
+use rows::playing::cpu_entry;
+use rows::playing::flag;
+use rows::playing::write;
 use crate::sounds::halt;
 use crate::sounds::shift;
-use crate::tally::Tally;
-use crate::tally::heading;
+use rows::tally::Tally;
+use rows::tally::heading;
 use vrc6::Board;
 use vrc6::board::Forecast;
 use vrc6::board::ResetKind;

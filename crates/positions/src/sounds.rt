@@ -1,12 +1,12 @@
 // The sound: the reference positions of document 01, the wiki's saw and duty examples, and levels.
-use crate::playing::Changing;
-use crate::playing::board_s;
-use crate::playing::board_s_b;
-use crate::playing::clocked;
-use crate::playing::flag;
-use crate::playing::write;
-use crate::tally::Tally;
-use crate::tally::heading;
+use rows::playing::Changing;
+use rows::playing::board_s;
+use rows::playing::board_s_b;
+use rows::playing::clocked;
+use rows::playing::flag;
+use rows::playing::write;
+use rows::tally::Tally;
+use rows::tally::heading;
 use audio::Level;
 use audio::pulse::Pulse;
 use audio::saw::Saw;

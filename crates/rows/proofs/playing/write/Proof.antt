@@ -1,10 +1,10 @@
--- `positions::playing::write` is safe and ends: the measure is the number of writes left.
+-- `rows::playing::write` is safe and ends: the measure is the number of writes left.
 -- Assumes nothing.
 use lib.ListN.{length}
 use Prim.Native.Nat.{_-_}
 use borrow.Author.Needs.{needs}
-use Rattle.positions.proofs.playing.write.Statement.{statement}
-use Rattle.positions.proofs.playing.write.Tie as tie
+use Rattle.rows.proofs.playing.write.Statement.{statement}
+use Rattle.rows.proofs.playing.write.Tie as tie
 
 abbrev Inv-loop : tie.InvT-loop
 Inv-loop fixed changing₀ writes b₀ i₀ changing b i = Unit {0}

@@ -1,9 +1,9 @@
--- `positions::number_pages` is safe and ends: the measure is the number of pages left.
+-- `rows::playing::number_pages` is safe and ends: the measure is the number of pages left.
 -- Assumes nothing.
 use Prim.Native.Nat.{_-_}
 use borrow.Author.Needs.{needs}
-use Rattle.positions.proofs.number_pages.Statement.{statement}
-use Rattle.positions.proofs.number_pages.Tie as tie
+use Rattle.rows.proofs.playing.number_pages.Statement.{statement}
+use Rattle.rows.proofs.playing.number_pages.Tie as tie
 
 abbrev Inv-loop : tie.InvT-loop
 Inv-loop fixed₀ page₀ fixed page = Unit {0}

@@ -1,9 +1,9 @@
--- `positions::comparing::same_pages` is safe and ends: the measure is the number of entries left.
+-- `rows::comparing::same_pages` is safe and ends: the measure is the number of entries left.
 -- Assumes nothing.
 use Prim.Native.Nat.{_-_}
 use borrow.Author.Needs.{needs}
-use Rattle.positions.proofs.comparing.same_pages.Statement.{statement}
-use Rattle.positions.proofs.comparing.same_pages.Tie as tie
+use Rattle.rows.proofs.comparing.same_pages.Statement.{statement}
+use Rattle.rows.proofs.comparing.same_pages.Tie as tie
 
 abbrev Inv-loop : tie.InvT-loop
 Inv-loop a b i₀ i = Unit {0}

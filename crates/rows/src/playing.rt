@@ -149,3 +149,14 @@ pub fn view_byte<'a>(
     let view = board.page_view(fixed, changing, addr);
     byte_of(view, i)
 }
+
+// Page p starts with the byte p and ends with the byte 255 - p, but the first, which is all zero.
+pub fn number_pages(fixed: &mut Fixed) {
+    let mut page: usize = 1;
+    while page < 257 {
+        let number = (page % 256) as u8;
+        fixed[page * 1024] = number;
+        fixed[page * 1024 + 1023] = 255 - number;
+        page += 1;
+    }
+}

@@ -1,10 +1,10 @@
--- `positions::comparing::checksum` is safe and ends: the measure is the number of bytes left.
+-- `rows::comparing::checksum` is safe and ends: the measure is the number of bytes left.
 -- Assumes nothing.
 use lib.ListN.{length}
 use Prim.Native.Nat.{_-_}
 use borrow.Author.Needs.{needs}
-use Rattle.positions.proofs.comparing.checksum.Statement.{statement}
-use Rattle.positions.proofs.comparing.checksum.Tie as tie
+use Rattle.rows.proofs.comparing.checksum.Statement.{statement}
+use Rattle.rows.proofs.comparing.checksum.Tie as tie
 
 abbrev Inv-loop : tie.InvT-loop
 Inv-loop bytes sum₀ i₀ sum i = Unit {0}

@@ -1,13 +1,13 @@
 // The refusals of the calls on a board: each number for each call that can give it, by boards of layout S with one
 // value put out of range.
-use crate::playing::Changing;
-use crate::playing::board_s;
-use crate::playing::byte_of;
-use crate::playing::view_length;
-use crate::playing::write;
+use rows::playing::Changing;
+use rows::playing::board_s;
+use rows::playing::byte_of;
+use rows::playing::view_length;
+use rows::playing::write;
 use crate::refusing::Case;
-use crate::tally::Tally;
-use crate::tally::heading;
+use rows::tally::Tally;
+use rows::tally::heading;
 use calls::Call;
 use layout::Page;
 use vrc6::Board;

@@ -1,9 +1,9 @@
 // One call on a board: its refusal number, and, where it is refused, that it said and changed nothing.
-use crate::comparing::checksum;
-use crate::comparing::same_board;
-use crate::playing::Changing;
-use crate::playing::flag;
-use crate::tally::Tally;
+use rows::comparing::checksum;
+use rows::comparing::same_board;
+use rows::playing::Changing;
+use rows::playing::flag;
+use rows::tally::Tally;
 use audio::Level;
 use calls::Answer;
 use calls::Call;

@@ -1,13 +1,13 @@
 // Bytes: reads and page views through the entries, writes that store and writes that do not.
-use crate::playing::Changing;
-use crate::playing::board_s;
-use crate::playing::byte_of;
-use crate::playing::cpu_entry;
-use crate::playing::view_byte;
-use crate::playing::view_length;
-use crate::playing::write;
-use crate::tally::Tally;
-use crate::tally::heading;
+use rows::playing::Changing;
+use rows::playing::board_s;
+use rows::playing::byte_of;
+use rows::playing::cpu_entry;
+use rows::playing::view_byte;
+use rows::playing::view_length;
+use rows::playing::write;
+use rows::tally::Tally;
+use rows::tally::heading;
 use layout::Page;
 use vrc6::Board;
 

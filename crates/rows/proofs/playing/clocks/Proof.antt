@@ -1,9 +1,9 @@
--- `positions::playing::clocks` is safe and ends: the measure is the number of clocks left.
+-- `rows::playing::clocks` is safe and ends: the measure is the number of clocks left.
 -- Assumes nothing.
 use Prim.Native.Nat.{_-_}
 use borrow.Author.Needs.{needs}
-use Rattle.positions.proofs.playing.clocks.Statement.{statement}
-use Rattle.positions.proofs.playing.clocks.Tie as tie
+use Rattle.rows.proofs.playing.clocks.Statement.{statement}
+use Rattle.rows.proofs.playing.clocks.Tie as tie
 
 abbrev Inv-loop : tie.InvT-loop
 Inv-loop n b₀ ticks₀ i₀ b ticks i = Unit {0}
