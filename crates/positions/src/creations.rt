@@ -1,4 +1,7 @@
 // Create: its refusals 1, 2 and 4, the all-zero board that they return, and what an accepted one holds.
+use banks::banking::Mirroring;
+use banks::banking::Revision;
+use layout::MemoryLayout;
 use rows::comparing::checksum;
 use rows::playing::Changing;
 use rows::playing::cpu_entry;
@@ -8,9 +11,6 @@ use rows::playing::mirroring;
 use rows::playing::nametables;
 use rows::tally::Tally;
 use rows::tally::heading;
-use banks::banking::Mirroring;
-use banks::banking::Revision;
-use layout::MemoryLayout;
 use vrc6::Board;
 use vrc6::board::Created;
 

@@ -1,4 +1,7 @@
 // Page entries and nametable numbers: the reference positions of document 01, and the mirroring values of the wiki.
+use banks::banking::Mirroring;
+use banks::banking::Revision;
+use layout::MemoryLayout;
 use rows::playing::Changing;
 use rows::playing::board_s;
 use rows::playing::board_s_b;
@@ -9,9 +12,6 @@ use rows::playing::picture_entry;
 use rows::playing::write;
 use rows::tally::Tally;
 use rows::tally::heading;
-use banks::banking::Mirroring;
-use banks::banking::Revision;
-use layout::MemoryLayout;
 use vrc6::Board;
 
 fn prg(t: Tally, fixed: &[u8], changing: &mut Changing) -> Tally {

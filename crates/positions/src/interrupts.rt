@@ -1,4 +1,6 @@
 // The interrupt: the reference positions of document 01, the wiki's line interrupts, and forecasts.
+use crate::sounds::halt;
+use crate::sounds::shift;
 use rows::playing::Changing;
 use rows::playing::board_s;
 use rows::playing::clocked;
@@ -6,8 +8,6 @@ use rows::playing::clocks;
 use rows::playing::cpu_entry;
 use rows::playing::flag;
 use rows::playing::write;
-use crate::sounds::halt;
-use crate::sounds::shift;
 use rows::tally::Tally;
 use rows::tally::heading;
 use vrc6::Board;

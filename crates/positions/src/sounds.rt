@@ -1,4 +1,7 @@
 // The sound: the reference positions of document 01, the wiki's saw and duty examples, and levels.
+use audio::Level;
+use audio::pulse::Pulse;
+use audio::saw::Saw;
 use rows::playing::Changing;
 use rows::playing::board_s;
 use rows::playing::board_s_b;
@@ -7,9 +10,6 @@ use rows::playing::flag;
 use rows::playing::write;
 use rows::tally::Tally;
 use rows::tally::heading;
-use audio::Level;
-use audio::pulse::Pulse;
-use audio::saw::Saw;
 use vrc6::Board;
 
 fn pulse1(board: Board) -> Pulse {

@@ -1,4 +1,5 @@
 // Bytes: reads and page views through the entries, writes that store and writes that do not.
+use layout::Page;
 use rows::playing::Changing;
 use rows::playing::board_s;
 use rows::playing::byte_of;
@@ -8,7 +9,6 @@ use rows::playing::view_length;
 use rows::playing::write;
 use rows::tally::Tally;
 use rows::tally::heading;
-use layout::Page;
 use vrc6::Board;
 
 fn read(board: Board, fixed: &[u8], changing: &Changing, addr: u16) -> u64 {

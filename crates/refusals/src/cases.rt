@@ -1,15 +1,15 @@
 // The refusals of the calls on a board: each number for each call that can give it, by boards of layout S with one
 // value put out of range.
+use crate::refusing::Case;
+use calls::Call;
+use layout::Page;
 use rows::playing::Changing;
 use rows::playing::board_s;
 use rows::playing::byte_of;
 use rows::playing::view_length;
 use rows::playing::write;
-use crate::refusing::Case;
 use rows::tally::Tally;
 use rows::tally::heading;
-use calls::Call;
-use layout::Page;
 use vrc6::Board;
 
 // Layout S with PRG RAM enabled. The groups before have left bytes other than 0 at $6000 and at picture address $2005.

@@ -1,13 +1,13 @@
 // One call on a board: its refusal number, and, where it is refused, that it said and changed nothing.
+use audio::Level;
+use calls::Answer;
+use calls::Call;
+use calls::step;
 use rows::comparing::checksum;
 use rows::comparing::same_board;
 use rows::playing::Changing;
 use rows::playing::flag;
 use rows::tally::Tally;
-use audio::Level;
-use calls::Answer;
-use calls::Call;
-use calls::step;
 use vrc6::Board;
 use vrc6::board::Forecast;
 
