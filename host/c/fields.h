@@ -1,0 +1,53 @@
+/* Every field of a board, by name and place. Nothing is said of a byte that is in none of them: it only aligns. */
+#ifndef FIELDS_H
+#define FIELDS_H
+
+#include "../../include/vrc6.h"
+
+typedef struct {
+    const char *name;
+    size_t at, size;
+} Field;
+
+#define FIELD(path) {#path, offsetof(Vrc6Board, path), sizeof((Vrc6Board *)0)->path}
+#define PULSE(p)                                                                                                       \
+    FIELD(p.enabled), FIELD(p.volume), FIELD(p.duty_cycle), FIELD(p.ignore_duty), FIELD(p.frequency), FIELD(p.timer),  \
+        FIELD(p.step), FIELD(p.freq_shift)
+
+static const Field fields[] = {
+    FIELD(layout.prg_rom),
+    FIELD(layout.chr),
+    FIELD(layout.chr_writable),
+    FIELD(layout.prg_ram),
+    FIELD(layout.ciram),
+    FIELD(prg_pages),
+    FIELD(chr_pages),
+    FIELD(banking.banking_mode),
+    FIELD(banking.prg_banks),
+    FIELD(banking.chr),
+    FIELD(banking.mirroring),
+    FIELD(banking.nt_banks),
+    FIELD(banking.revision),
+    FIELD(irq.reload),
+    FIELD(irq.prescalar_counter),
+    FIELD(irq.counter),
+    FIELD(irq.irq_pending),
+    FIELD(irq.enabled),
+    FIELD(irq.enabled_after_ack),
+    FIELD(irq.cycle_mode),
+    PULSE(audio.pulse1),
+    PULSE(audio.pulse2),
+    FIELD(audio.saw.enabled),
+    FIELD(audio.saw.accum),
+    FIELD(audio.saw.accum_rate),
+    FIELD(audio.saw.frequency),
+    FIELD(audio.saw.timer),
+    FIELD(audio.saw.step),
+    FIELD(audio.saw.freq_shift),
+    FIELD(audio.halt),
+    FIELD(audio.out),
+};
+
+enum { FIELDS = sizeof fields / sizeof fields[0] };
+
+#endif

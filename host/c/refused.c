@@ -1,0 +1,173 @@
+/* Bad input: every call is refused by the number that vrc6.h tells, and leaves board and buffers byte for byte as they
+ * were; a refused creation leaves the zero board. */
+#include "cart.h"
+#include "fields.h"
+
+static Vrc6Board board;
+
+/* What the call before is compared with. */
+static Vrc6Board board_before;
+static uint8_t fixed_before[sizeof fixed], changing_before[sizeof changing];
+
+static void remember(void) {
+    memcpy(&board_before, &board, sizeof board);
+    memcpy(fixed_before, fixed, sizeof fixed);
+    memcpy(changing_before, changing, sizeof changing);
+}
+
+static void refused(const char *call, int number, int wanted) {
+    expect(call, number, wanted);
+    expect("board after a refusal", memcmp(&board, &board_before, sizeof board), 0);
+    expect("fixed buffer after a refusal", memcmp(fixed, fixed_before, sizeof fixed), 0);
+    expect("changing buffer after a refusal", memcmp(changing, changing_before, sizeof changing), 0);
+}
+
+/* The calls that take buffers. */
+static void all_with_buffers(size_t fixed_len, size_t changing_len, uint16_t addr, int wanted) {
+    remember();
+    Vrc6Peeked cpu = lent_cpu_read(&board, fixed, fixed_len, changing, changing_len, addr);
+    refused("cpu_read", cpu.refusal, wanted);
+    expect("cpu_read, byte", cpu.byte, 0);
+    Vrc6Peeked picture = lent_picture_read(&board, fixed, fixed_len, changing, changing_len, addr);
+    refused("picture_read", picture.refusal, wanted);
+    expect("picture_read, byte", picture.byte, 0);
+    Vrc6PageAt page = lent_page_view(&board, fixed, fixed_len, changing, changing_len, addr);
+    refused("page_view", page.refusal, wanted);
+    expect("page_view, offset", page.offset, 0);
+    expect("page_view, changing", page.changing, 0);
+    refused("picture_write", lent_picture_write(&board, fixed, fixed_len, changing, changing_len, addr, 1), wanted);
+    refused("cpu_write", lent_cpu_write(&board, fixed, fixed_len, changing, changing_len, addr, 1), wanted);
+}
+
+/* The calls that take none. */
+static void all_without_buffers(void) {
+    remember();
+    Vrc6Tick tick = lent_clock(&board);
+    refused("clock", tick.refusal, VRC6_VALUES);
+    expect("clock, ticked", tick.ticked, 0);
+    refused("clock_number", lent_clock_number(&board), 2 * VRC6_VALUES);
+    refused("reset", lent_reset(&board), VRC6_VALUES);
+    Vrc6LevelTold level = lent_level(&board);
+    refused("level", level.refusal, VRC6_VALUES);
+    expect("level, level", level.level == 0.0f, 1);
+    expect("level, name", level.name, 0);
+    Vrc6ForecastTold forecast = lent_forecast(&board);
+    refused("forecast", forecast.refusal, VRC6_VALUES);
+    expect("forecast, clocks", forecast.clocks, 0);
+    expect("forecast, armed", forecast.armed, 0);
+}
+
+static void wrong_lengths(void) {
+    static const size_t off[][2] = {{FIXED - 1, CHANGING}, {FIXED + 1, CHANGING}, {0, CHANGING},
+                                    {FIXED, CHANGING - 1}, {FIXED, CHANGING + 1}, {FIXED, 0}};
+    make(&board);
+    for (size_t i = 0; i < sizeof off / sizeof off[0]; i++)
+        all_with_buffers(off[i][0], off[i][1], 0x8000, VRC6_LENGTHS);
+}
+
+static void layouts_above_limits(void) {
+    uint32_t *const lengths[] = {&board.layout.prg_rom, &board.layout.chr, &board.layout.prg_ram, &board.layout.ciram};
+    static const uint32_t limits[] = {262144, 262144, 8192, 4096};
+    for (int i = 0; i < 4; i++) {
+        make(&board);
+        *lengths[i] = limits[i] + 1;
+        all_with_buffers(FIXED, CHANGING, 0x8000, VRC6_LIMITS);
+        *lengths[i] = UINT32_MAX;
+        all_with_buffers(FIXED, CHANGING, 0x8000, VRC6_LIMITS);
+    }
+}
+
+/* A board of any bytes, each bool 0 or 1. */
+static void garbage(uint32_t *seed) {
+    for (int i = 0; i < FIELDS; i++)
+        for (size_t j = 0; j < fields[i].size; j++) {
+            *seed = *seed * 1664525 + 1013904223;
+            ((uint8_t *)&board)[fields[i].at + j] = (uint8_t)(*seed >> 24);
+        }
+    bool *const bools[] = {&board.layout.chr_writable,      &board.banking.revision,
+                           &board.irq.irq_pending,          &board.irq.enabled,
+                           &board.irq.enabled_after_ack,    &board.irq.cycle_mode,
+                           &board.audio.pulse1.enabled,     &board.audio.pulse1.ignore_duty,
+                           &board.audio.pulse2.enabled,     &board.audio.pulse2.ignore_duty,
+                           &board.audio.saw.enabled,        &board.audio.halt};
+    for (size_t i = 0; i < sizeof bools / sizeof bools[0]; i++) *(uint8_t *)bools[i] &= 1;
+}
+
+static void garbage_boards(void) {
+    uint32_t seed = 24;
+    for (int i = 0; i < 200; i++) {
+        uint16_t addr = (uint16_t)(seed >> 16);
+        memset(&board, 0xEE, sizeof board);
+        garbage(&seed);
+        all_with_buffers(FIXED, CHANGING, addr, VRC6_LIMITS);
+        all_without_buffers();
+        board.layout = cart;
+        all_with_buffers(FIXED, CHANGING, addr, VRC6_VALUES);
+    }
+}
+
+/* A refused creation, in a room of any bytes. */
+static void not_created(Vrc6MemoryLayout layout, int mirroring, int revision, size_t fixed_len, int wanted) {
+    static const uint8_t zeros[sizeof board];
+    memset(&board, 0xEE, sizeof board);
+    remember();
+    uint8_t number =
+        lent_create(&board, layout, (uint8_t)mirroring, (uint8_t)revision, fixed, fixed_len, changing, CHANGING);
+    expect("create", number, wanted);
+    for (int i = 0; i < FIELDS; i++)
+        expect(fields[i].name, memcmp((uint8_t *)&board + fields[i].at, zeros, fields[i].size), 0);
+    expect("fixed buffer after create", memcmp(fixed, fixed_before, sizeof fixed), 0);
+    expect("changing buffer after create", memcmp(changing, changing_before, sizeof changing), 0);
+    all_without_buffers();
+    all_with_buffers(FIXED, CHANGING, 0x8000, VRC6_LENGTHS);
+}
+
+/* The zero board is one of the layout with all lengths 0, and shows the first page of such buffers. */
+static void zero_board(void) {
+    memset(&board, 0, sizeof board);
+    Vrc6Peeked at = lent_cpu_read(&board, fixed, 1024, changing, 2048, 0x8000);
+    expect("cpu_read of the zero board", at.refusal, VRC6_OK);
+    remember();
+    refused("cpu_write", lent_cpu_write(&board, fixed, 1024, changing, 2048, 0x8000, 1), VRC6_VALUES);
+    refused("cpu_write to no page", lent_cpu_write(&board, fixed, 1024, changing, 2048, 0x6000, 1), VRC6_OK);
+    all_without_buffers();
+}
+
+static void refused_creations(void) {
+    Vrc6MemoryLayout long_prg = cart, long_chr = cart, long_ram = cart, long_ciram = cart;
+    long_prg.prg_rom = 262145;
+    long_chr.chr = 262145;
+    long_ram.prg_ram = 8193;
+    long_ciram.ciram = 4097;
+    not_created(long_prg, 0, 0, FIXED, VRC6_LIMITS);
+    not_created(long_chr, 0, 0, FIXED, VRC6_LIMITS);
+    not_created(long_ram, 0, 0, FIXED, VRC6_LIMITS);
+    not_created(long_ciram, 0, 0, FIXED, VRC6_LIMITS);
+    not_created(cart, 0, 0, FIXED - 1, VRC6_LENGTHS);
+    not_created(cart, 0, 0, 0, VRC6_LENGTHS);
+    for (int n = 5; n < 256; n += 2) not_created(cart, n, 0, FIXED, VRC6_VALUES);
+    for (int n = 2; n < 256; n += 2) not_created(cart, 0, n, FIXED, VRC6_VALUES);
+    for (int at = 0; at < 1024; at += 93) {
+        fixed[at] = 1;
+        not_created(cart, 0, 0, FIXED, VRC6_ZEROS);
+        fixed[at] = 0;
+    }
+    /* The first failing condition gives the number. */
+    fixed[1023] = 1;
+    not_created(long_prg, 9, 0, FIXED - 1, VRC6_LIMITS);
+    not_created(cart, 9, 0, FIXED - 1, VRC6_LENGTHS);
+    not_created(cart, 9, 0, FIXED, VRC6_VALUES);
+    not_created(cart, 4, 1, FIXED, VRC6_ZEROS);
+    fixed[1023] = 0;
+    expect("create", make(&board), VRC6_OK);
+}
+
+int main(void) {
+    insert_cart();
+    wrong_lengths();
+    layouts_above_limits();
+    garbage_boards();
+    refused_creations();
+    zero_board();
+    return verdict("refused");
+}

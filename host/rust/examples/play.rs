@@ -1,0 +1,69 @@
+//! A player's loop in small, as host/c/main.c: it prints the same lines.
+use vrc6::{Level, MemoryLayout, Mirroring, Refusal, Revision, Vrc6};
+
+const LAYOUT: MemoryLayout =
+    MemoryLayout { prg_rom: 131_072, chr: 131_072, chr_writable: false, prg_ram: 8192, ciram: 2048 };
+
+/// A page of zeros, then each page of PRG ROM and of CHR filled with its number.
+fn made_up_rom() -> Vec<u8> {
+    let numbers = (0..128).chain(0..128);
+    std::iter::repeat_n(0, 1024).chain(numbers.flat_map(|n| std::iter::repeat_n(n, 1024))).collect()
+}
+
+fn banks(v: &mut Vrc6) -> Result<(), Refusal> {
+    println!("created: $E000 reads {}", v.cpu_read(0xE000)?);
+    v.cpu_write(0x8000, 3)?;
+    println!("first PRG number 3: $8000 reads {}", v.cpu_read(0x8000)?);
+    v.cpu_write(0xB003, 0xA0)?;
+    v.cpu_write(0x6123, 77)?;
+    println!("PRG RAM on, 77 written: $6123 reads {}", v.cpu_read(0x6123)?);
+    Ok(())
+}
+
+/// Clocks until the cartridge asks for an interrupt.
+fn interrupt(v: &mut Vrc6) -> Result<(), Refusal> {
+    v.cpu_write(0xF000, 0xFE)?;
+    v.cpu_write(0xF001, 2)?;
+    let told = v.forecast()?.expect("an armed counter");
+    let (mut clocks, mut ticks) = (0, 0);
+    while !v.irq_pending() && clocks < 100_000 {
+        ticks += u32::from(v.clock()?);
+        clocks += 1;
+    }
+    assert_eq!(clocks, told);
+    println!("reload $FE, control 2: forecast {told}, interrupt after {clocks} clocks, {ticks} ticks");
+    v.cpu_write(0xF002, 0)?;
+    println!("acknowledged: pending {}, armed {}", v.irq_pending() as u8, v.forecast()?.is_some() as u8);
+    Ok(())
+}
+
+fn sound(v: &mut Vrc6) -> Result<(), Refusal> {
+    v.cpu_write(0x9000, 0x8F)?;
+    v.cpu_write(0x9002, 0x80)?;
+    v.clock()?;
+    let (name, level) = match v.level()? {
+        Level::Silent(level) => ("silent", level),
+        Level::Held(level) => ("held", level),
+        Level::Playing(level) => ("playing", level),
+    };
+    println!("one pulse at volume 15: {name}, level {level:.7}");
+    Ok(())
+}
+
+fn pages(v: &mut Vrc6) -> Result<(), Refusal> {
+    v.cpu_write(0xD001, 9)?;
+    println!("CHR 1 = 9: the page at picture $0400 begins with {}", v.page_view(0x0400)?[0]);
+    v.picture_write(0x2400, 33)?;
+    println!("33 written to nametable $2400: its page begins with {}", v.page_view(0x2400)?[0]);
+    Ok(())
+}
+
+fn main() -> Result<(), Refusal> {
+    let changing = vec![0x5A; LAYOUT.changing_length()];
+    println!("fixed {} bytes, changing {} bytes", LAYOUT.fixed_length(), LAYOUT.changing_length());
+    let mut v = Vrc6::new(LAYOUT, Mirroring::Vertical, Revision::A, made_up_rom(), changing)?;
+    banks(&mut v)?;
+    interrupt(&mut v)?;
+    sound(&mut v)?;
+    pages(&mut v)
+}

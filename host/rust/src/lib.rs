@@ -1,0 +1,156 @@
+//! The proved VRC6 board for Rust hosts. [`Vrc6`] owns a board and its two buffers; [`calls`] has the same calls for a
+//! host that keeps them itself.
+pub mod calls;
+pub mod records;
+
+pub use records::{Board, MemoryLayout};
+
+/// Why a call is refused: the first condition that fails, in this order. A refused call changes nothing.
+#[derive(Debug, Clone, Copy, PartialEq, Eq)]
+pub enum Refusal {
+    /// A length of the layout is above its limit.
+    Limits = 1,
+    /// A buffer's length is not the layout's.
+    Lengths = 2,
+    /// A value that the call checks is out of range.
+    Values = 3,
+    /// The first 1,024 bytes of the fixed buffer are not all zero.
+    Zeros = 4,
+}
+
+impl std::fmt::Display for Refusal {
+    fn fmt(&self, f: &mut std::fmt::Formatter) -> std::fmt::Result {
+        f.write_str(match self {
+            Refusal::Limits => "a length of the layout is above its limit",
+            Refusal::Lengths => "a buffer's length is not the layout's",
+            Refusal::Values => "a value is out of range",
+            Refusal::Zeros => "the fixed buffer's first page is not all zero",
+        })
+    }
+}
+
+impl std::error::Error for Refusal {}
+
+/// The answer, unless the number beside it is a refusal's. Contracts allow no number above 4.
+pub fn unless<T>(refusal: u8, answer: T) -> Result<T, Refusal> {
+    match refusal {
+        0 => Ok(answer),
+        1 => Err(Refusal::Limits),
+        2 => Err(Refusal::Lengths),
+        3 => Err(Refusal::Values),
+        4 => Err(Refusal::Zeros),
+        n => unreachable!("refusal {n}"),
+    }
+}
+
+#[derive(Debug, Clone, Copy, PartialEq, Eq)]
+pub enum Mirroring {
+    Vertical = 0,
+    Horizontal = 1,
+    SingleScreenA = 2,
+    SingleScreenB = 3,
+    FourScreen = 4,
+}
+
+/// B exchanges address lines 0 and 1.
+#[derive(Debug, Clone, Copy, PartialEq, Eq)]
+pub enum Revision {
+    A = 0,
+    B = 1,
+}
+
+/// The level of the sound: silent if no channel is enabled, otherwise held if halted.
+#[derive(Debug, Clone, Copy, PartialEq)]
+pub enum Level {
+    Silent(f32),
+    Held(f32),
+    Playing(f32),
+}
+
+/// A board that was created, and its buffers. No call of a list from creation on is refused, which is proved, so a
+/// host may treat a refusal here as memory gone wrong.
+#[derive(Debug, Clone, PartialEq)]
+pub struct Vrc6 {
+    board: Board,
+    fixed: Vec<u8>,
+    changing: Vec<u8>,
+}
+
+impl Vrc6 {
+    /// `fixed` holds a page of zeros, PRG ROM, and CHR if it is not writable; `changing` holds PRG RAM, CHR if it is
+    /// writable, and CIRAM. Each region is filled up to whole pages of 1,024.
+    pub fn new(
+        layout: MemoryLayout,
+        mirroring: Mirroring,
+        revision: Revision,
+        fixed: Vec<u8>,
+        changing: Vec<u8>,
+    ) -> Result<Self, Refusal> {
+        let mut board = Board::default();
+        let refusal = calls::create(&mut board, layout, mirroring as u8, revision as u8, &fixed, &changing);
+        unless(refusal, Vrc6 { board, fixed, changing })
+    }
+
+    /// The board's values, to look at.
+    pub fn board(&self) -> &Board {
+        &self.board
+    }
+
+    /// Whether the cartridge asks for an interrupt.
+    pub fn irq_pending(&self) -> bool {
+        self.board.irq.irq_pending
+    }
+
+    pub fn cpu_read(&mut self, addr: u16) -> Result<u8, Refusal> {
+        let at = calls::cpu_read(&mut self.board, &self.fixed, &self.changing, addr);
+        unless(at.refusal, at.byte)
+    }
+
+    /// The byte where the page takes writes, then the register of the address.
+    pub fn cpu_write(&mut self, addr: u16, val: u8) -> Result<(), Refusal> {
+        unless(calls::cpu_write(&mut self.board, &self.fixed, &mut self.changing, addr, val), ())
+    }
+
+    pub fn picture_read(&mut self, addr: u16) -> Result<u8, Refusal> {
+        let at = calls::picture_read(&mut self.board, &self.fixed, &self.changing, addr);
+        unless(at.refusal, at.byte)
+    }
+
+    pub fn picture_write(&mut self, addr: u16, val: u8) -> Result<(), Refusal> {
+        unless(calls::picture_write(&mut self.board, &self.fixed, &mut self.changing, addr, val), ())
+    }
+
+    /// One CPU clock; whether the interrupt counter ticked.
+    pub fn clock(&mut self) -> Result<bool, Refusal> {
+        let tick = calls::clock(&mut self.board);
+        unless(tick.refusal, tick.ticked)
+    }
+
+    pub fn reset(&mut self) -> Result<(), Refusal> {
+        unless(calls::reset(&mut self.board), ())
+    }
+
+    pub fn level(&mut self) -> Result<Level, Refusal> {
+        let told = calls::level(&mut self.board);
+        let named = match told.name {
+            0 => Level::Silent,
+            1 => Level::Held,
+            _ => Level::Playing,
+        };
+        unless(told.refusal, named(told.level))
+    }
+
+    /// The clocks until the counter next asks for an interrupt; None if it is not armed.
+    pub fn forecast(&mut self) -> Result<Option<u32>, Refusal> {
+        let told = calls::forecast(&mut self.board);
+        unless(told.refusal, told.armed.then_some(told.clocks))
+    }
+
+    /// The 1,024 bytes that a picture address and its neighbours show.
+    pub fn page_view(&mut self, addr: u16) -> Result<&[u8], Refusal> {
+        let at = calls::page_view(&mut self.board, &self.fixed, &self.changing, addr);
+        unless(at.refusal, ())?;
+        let of = if at.changing { &self.changing } else { &self.fixed };
+        Ok(&of[at.offset as usize..][..1024])
+    }
+}

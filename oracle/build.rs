@@ -1,0 +1,9 @@
+//! Only the bench links the proved board's archive; the rest builds without it.
+fn main() {
+    println!("cargo:rerun-if-changed=build.rs");
+    if std::env::var_os("CARGO_FEATURE_BENCH").is_some() {
+        let dir = std::env::var("CARGO_MANIFEST_DIR").expect("cargo") + "/../target/staticlib";
+        println!("cargo:rerun-if-changed={dir}/liblent.a");
+        println!("cargo:rustc-link-search=native={dir}");
+    }
+}
