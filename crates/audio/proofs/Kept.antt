@@ -124,7 +124,7 @@ module _ {p : Pulse} (h : PulseIn p) where
   pulse-level-top = either (λ n. n ≤ 15) (p .enabled && (p .«ignore_duty» || leb (p .step) (p .«duty_cycle»))) (h .volume-top) (omega arith)
 
 -- ---- the saw, with its accumulator
-abbrev Saws : Saw → Type 0
+abbrev pub Saws : Saw → Type 0
 Saws s = SawIn s × (s .accum ≤ 255)
 
 accumulated-top : (k a r : ℕ) → a ≤ 255 → accumulated k a r ≤ 255
@@ -181,7 +181,7 @@ module _ {p q : Pulse} {s : Saw} (h : PulseIn p) (k : PulseIn q) (l : Saws s) wh
   summed-whole : summed p q s ≡ float whole
   summed-whole = let t = whole-top in exact (pulseLevel p) (pulseLevel q) (sawLevel s) (omega arith)
 
-  summed-tested : isSum (summed p q s) ≡ true
+  pub summed-tested : isSum (summed p q s) ≡ true
   summed-tested = rw summed-whole (float-tested whole whole-top)
 
 -- ---- the sound state

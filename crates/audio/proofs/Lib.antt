@@ -1,4 +1,6 @@
 pub mod Timers
 pub mod Ranged
+pub mod Joined
 pub mod Kept
+pub mod Steady
 pub mod Rows

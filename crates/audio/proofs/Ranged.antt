@@ -17,7 +17,7 @@ use Rattle.audio.specs.Laws.{InRangeLaw}
 two : (a b : Bool) → (a && b) ≡ true → (a ≡ true) × (b ≡ true)
 two a b h = (and-left a b h, and-right a b h)
 
-three : (a b c : Bool) → (a && b && c) ≡ true → (a ≡ true) × (b ≡ true) × (c ≡ true)
+pub three : (a b c : Bool) → (a && b && c) ≡ true → (a ≡ true) × (b ≡ true) × (c ≡ true)
 three a b c h = let k = two a b (and-left (a && b) c h) in (k .0, k .1, and-right (a && b) c h)
 
 four : (a b c d : Bool) → (a && b && c && d) ≡ true → (a ≡ true) × (b ≡ true) × (c ≡ true) × (d ≡ true)
@@ -49,7 +49,7 @@ module _ (f t s : ℕ) where
       both (both (both (le-leb f 4095 (h .frequency-top)) (le-leb 1 t (h .timer-low))) (le-leb t 4096 (h .timer-top))) (h .shift-is)
 
 module _ (p : Pulse) where
-  pulse-in : pulseInRange p ≡ true → PulseIn p
+  pub pulse-in : pulseInRange p ≡ true → PulseIn p
   unfolding pulseInRange
   pulse-in h =
       let k = four (leb (p .volume) 15) (leb (p .«duty_cycle») 7) (leb (p .step) 15) (channelInRange (p .frequency) (p .timer) (p .«freq_shift»)) h in
@@ -60,14 +60,14 @@ module _ (p : Pulse) where
         channel = channel-in (p .frequency) (p .timer) (p .«freq_shift») (k .3);
       }
 
-  pulse-tested : PulseIn p → pulseInRange p ≡ true
+  pub pulse-tested : PulseIn p → pulseInRange p ≡ true
   unfolding pulseInRange
   pulse-tested h =
       both (both (both (le-leb (p .volume) 15 (h .volume-top)) (le-leb (p .«duty_cycle») 7 (h .duty-top))) (le-leb (p .step) 15 (h .step-top)))
       (channel-tested (p .frequency) (p .timer) (p .«freq_shift») (h .channel))
 
 module _ (s : Saw) where
-  saw-in : sawInRange s ≡ true → SawIn s
+  pub saw-in : sawInRange s ≡ true → SawIn s
   unfolding sawInRange
   saw-in h =
       let k = three (leb (s .«accum_rate») 63) (leb (s .step) 13) (channelInRange (s .frequency) (s .timer) (s .«freq_shift»)) h in
@@ -77,7 +77,7 @@ module _ (s : Saw) where
         channel = channel-in (s .frequency) (s .timer) (s .«freq_shift») (k .2);
       }
 
-  saw-tested : SawIn s → sawInRange s ≡ true
+  pub saw-tested : SawIn s → sawInRange s ≡ true
   unfolding sawInRange
   saw-tested h =
       both (both (le-leb (s .«accum_rate») 63 (h .rate-top)) (le-leb (s .step) 13 (h .step-top)))

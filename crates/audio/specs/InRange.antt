@@ -23,6 +23,10 @@ pulseInRange p = leb (p .volume) 15 && leb (p .«duty_cycle») 7 && leb (p .step
 unfoldable pub sawInRange : Saw → Bool
 sawInRange s = leb (s .«accum_rate») 63 && leb (s .step) 13 && channelInRange (s .frequency) (s .timer) (s .«freq_shift»)
 
+-- every value of the three channels
+abbrev pub channelsInRange : Pulse → Pulse → Saw → Bool
+channelsInRange p q s = pulseInRange p && pulseInRange q && sawInRange s
+
 -- every sound value, and the sum a whole number 0..61
 unfoldable pub audioInRange : Audio → Bool
-audioInRange a = pulseInRange (a .pulse1) && pulseInRange (a .pulse2) && sawInRange (a .saw) && isSum (a .out)
+audioInRange a = channelsInRange (a .pulse1) (a .pulse2) (a .saw) && isSum (a .out)

@@ -9,8 +9,8 @@ use Rattle.audio.specs.declared.AudioRegister.the-variants.{Pulse1, Puls
 use Rattle.audio.specs.declared.pulse.Pulse.{Pulse}
 use Rattle.audio.specs.declared.saw.Saw.{Saw}
 use Rattle.audio.specs.declared.Audio.{Audio}
-use Rattle.audio.specs.Pulses.{pulseAt, pulseWritten, pulseShifted, pulseClocked, pulseLevel}
-use Rattle.audio.specs.Saws.{sawAt, sawWritten, sawShifted, sawClocked, sawLevel}
+use Rattle.audio.specs.Pulses.{pulseAt, pulseTimed, pulseWritten, pulseShifted, pulseClocked, pulseLevel}
+use Rattle.audio.specs.Saws.{sawAt, sawTimed, sawWritten, sawShifted, sawClocked, sawLevel}
 
 -- no channel on, each frequency and timer the same: 1 in `Audio::new`, 0 in the all-zero board
 abbrev pub audioAt : (frequency : ℕ) → Audio
@@ -19,6 +19,11 @@ audioAt f = record { pulse1 = pulseAt f; pulse2 = pulseAt f; saw = sawAt f; halt
 -- a with other channels
 abbrev pub withChannels : Audio → Pulse → Pulse → Saw → Audio
 withChannels a p q s = record { pulse1 = p; pulse2 = q; saw = s; halt = a .halt; out = a .out }
+
+-- a with other timers
+abbrev pub withTimers : Audio → (timer1 timer2 timer3 : ℕ) → Audio
+withTimers a t u v =
+    withChannels a (pulseTimed t (a .pulse1 .step) (a .pulse1)) (pulseTimed u (a .pulse2 .step) (a .pulse2)) (sawTimed v (a .saw .step) (a .saw .accum) (a .saw))
 
 -- $9003, A and B: the shift is 8 for bit 2, otherwise 4 for bit 1, otherwise 0 (VRC6 audio; 01, Sound)
 abbrev pub shiftOf : (val : ℕ) → ℕ

@@ -1,7 +1,6 @@
-// What pulses and the saw have in common: registers, frequency and ranges.
+// What pulses and the saw have in common: registers and frequency.
 ghost use mathlib.Core.Path.{_≡_};
 ghost use Rattle.audio.specs.Channels.{lowByte, highBits};
-ghost use Rattle.audio.specs.InRange.{channelInRange};
 
 // $x000, $x001 and $x002.
 pub enum ChannelRegister {
@@ -22,14 +21,4 @@ pub(crate) fn high_bits(frequency: u16, val: u8) -> u16
     ensures { λ r. ⌜ r ≡ highBits frequency val ⌝ }
 {
     (val as u16) % 16 * 256 + frequency % 256
-}
-
-// The tests use & and |, which take no branch.
-pub(crate) fn channel_in_range(frequency: u16, timer: u16, shift: u8) -> bool
-    ensures { λ r. ⌜ r ≡ channelInRange frequency timer shift ⌝ }
-{
-    (frequency <= 4095)
-        & (1 <= timer)
-        & (timer <= 4096)
-        & ((shift == 0) | (shift == 4) | (shift == 8))
 }

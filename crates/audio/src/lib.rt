@@ -8,7 +8,7 @@ use crate::pulse::Pulse;
 use crate::saw::Saw;
 ghost use mathlib.Core.Path.{_≡_};
 ghost use Rattle.audio.specs.Sound.{audioAt, shiftOf, audioWritten, audioClocked, audioReset};
-ghost use Rattle.audio.specs.InRange.{audioInRange};
+ghost use Rattle.audio.specs.InRange.{audioInRange, channelsInRange};
 ghost use Rattle.audio.specs.Ranges.{AudioIn};
 ghost use Rattle.audio.specs.Levels.{outputOf, levelOf, levelName};
 
@@ -42,6 +42,33 @@ fn shift_of(val: u8) -> u8
     } else {
         0
     }
+}
+
+// Whether each value of the three channels is in its range; every accumulator is. The tests use &, which takes no
+// branch, and equal limits stand side by side, so that the compiler can test them as one.
+pub fn channels_in_range(p: Pulse, q: Pulse, s: Saw) -> bool
+    ensures { λ r. ⌜ r ≡ channelsInRange p q s ⌝ }
+{
+    (p.volume <= 15)
+        & (q.volume <= 15)
+        & (p.step <= 15)
+        & (q.step <= 15)
+        & (p.duty_cycle <= 7)
+        & (q.duty_cycle <= 7)
+        & (p.frequency <= 4095)
+        & (q.frequency <= 4095)
+        & (s.frequency <= 4095)
+        & ((1 <= p.timer) & (p.timer <= 4096))
+        & ((1 <= q.timer) & (q.timer <= 4096))
+        & ((1 <= s.timer) & (s.timer <= 4096))
+        & (s.accum_rate <= 63)
+        & (s.step <= 13)
+        & (p.freq_shift % 4 == 0)
+        & (q.freq_shift % 4 == 0)
+        & (s.freq_shift % 4 == 0)
+        & (p.freq_shift <= 8)
+        & (q.freq_shift <= 8)
+        & (s.freq_shift <= 8)
 }
 
 // The one place that gives a level its name.
@@ -146,10 +173,7 @@ impl Audio {
     pub fn in_range(self) -> bool
         ensures { λ r. ⌜ r ≡ audioInRange self ⌝ }
     {
-        self.pulse1.in_range()
-            & self.pulse2.in_range()
-            & self.saw.in_range()
-            & wholes::is_sum(self.out)
+        channels_in_range(self.pulse1, self.pulse2, self.saw) & wholes::is_sum(self.out)
     }
 
     pub fn output(self) -> f32

@@ -4,7 +4,6 @@ use crate::channel::ChannelRegister;
 ghost use mathlib.Core.Path.{_≡_};
 ghost use Rattle.wholes.specs.Wholes.{float};
 ghost use Rattle.audio.specs.Pulses.{pulseAt, pulseWritten, pulseShifted, pulseClocked, pulseLevel};
-ghost use Rattle.audio.specs.InRange.{pulseInRange};
 ghost use Rattle.audio.specs.Ranges.{PulseIn};
 
 #[repr(C)]
@@ -75,15 +74,20 @@ impl Pulse {
         self
     }
 
-    // The Rust's `volume`, whose name a field has here.
+    // The Rust's `volume`, whose name a field has here. Nested tests run faster than joined ones: while the sound is
+    // steady their outcome stays the same.
     pub fn level(self) -> f32
         ensures { λ r. ⌜ r ≡ float (pulseLevel self) ⌝ }
     {
-        if self.enabled & (self.ignore_duty | (self.step <= self.duty_cycle)) {
-            self.volume as f32
-        } else {
-            0.0
+        if self.enabled {
+            if self.step <= self.duty_cycle {
+                return self.volume as f32;
+            }
+            if self.ignore_duty {
+                return self.volume as f32;
+            }
         }
+        0.0
     }
 
     pub fn clock(mut self) -> Self
@@ -98,15 +102,5 @@ impl Pulse {
             }
         }
         self
-    }
-
-    // Whether each value is in its range.
-    pub fn in_range(self) -> bool
-        ensures { λ r. ⌜ r ≡ pulseInRange self ⌝ }
-    {
-        (self.volume <= 15)
-            & (self.duty_cycle <= 7)
-            & (self.step <= 15)
-            & channel::channel_in_range(self.frequency, self.timer, self.freq_shift)
     }
 }

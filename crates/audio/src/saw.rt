@@ -4,7 +4,6 @@ use crate::channel::ChannelRegister;
 ghost use mathlib.Core.Path.{_≡_};
 ghost use Rattle.wholes.specs.Wholes.{float};
 ghost use Rattle.audio.specs.Saws.{sawAt, sawWritten, sawShifted, sawClocked, sawLevel, accumulated};
-ghost use Rattle.audio.specs.InRange.{sawInRange};
 ghost use Rattle.audio.specs.Ranges.{SawIn};
 
 #[repr(C)]
@@ -110,14 +109,5 @@ impl Saw {
             }
         }
         self
-    }
-
-    // Whether each value is in its range; every accumulator is.
-    pub fn in_range(self) -> bool
-        ensures { λ r. ⌜ r ≡ sawInRange self ⌝ }
-    {
-        (self.accum_rate <= 63)
-            & (self.step <= 13)
-            & channel::channel_in_range(self.frequency, self.timer, self.freq_shift)
     }
 }

@@ -1,9 +1,5 @@
 pub mod Spelled
 pub mod Named
 pub mod Slots
-pub mod Regions
-pub mod Windows
-pub mod Entries
 pub mod Counts
 pub mod Written
-pub mod Rows

@@ -1,7 +1,4 @@
 pub mod Chr
 pub mod Nametables
 pub mod Banking
-pub mod Tables
-pub mod Inner
 pub mod Laws
-pub mod Positions

@@ -107,7 +107,7 @@ impl Banking {
     }
 
     // The banks of the eight 1 KiB slots, by the mode's lowest two bits.
-    pub(crate) fn chr_banks(self) -> [u8; 8]
+    pub fn chr_banks(self) -> [u8; 8]
         ensures { λ r. ⌜ r ≡ chrSlots (self .«banking_mode») (self .chr) ⌝ }
     {
         let chr = self.chr;

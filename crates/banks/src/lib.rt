@@ -1,5 +1,4 @@
-// The banking values, what a bank write makes of them, and the page entries that follow
-// (tetanes-core's m024_m026_vrc6.rs, `chr_banks`, `update_nametables`, `set_mirroring`, `update_banks`).
+// The banking values, and what a bank write makes of them (tetanes-core's m024_m026_vrc6.rs, `chr_banks`,
+// `update_nametables`, `set_mirroring`).
 pub mod banking;
 pub mod nametables;
-pub mod tables;

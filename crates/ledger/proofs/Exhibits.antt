@@ -16,7 +16,7 @@ use Rattle.banks.specs.declared.banking.Mirroring.{Mirroring}
 use Rattle.banks.specs.declared.banking.Revision.{Revision}
 use Rattle.banks.specs.declared.banking.Revision.the-variants.{A, B}
 use Rattle.banks.specs.Chr.{chrSlots}
-use Rattle.banks.specs.Tables.{pictureEntries}
+use Rattle.tables.specs.Tables.{pictureEntries}
 use Rattle.calls.specs.declared.Call.the-variants.{Clock}
 use Rattle.vrc6.specs.Boards.{Creation}
 use Rattle.vrc6.specs.Checks.{allZero, createRefusal}

@@ -23,7 +23,7 @@ use Rattle.banks.specs.declared.banking.Mirroring.{Mirroring}
 use Rattle.banks.specs.declared.banking.Mirroring.the-variants.{Vertical, Horizontal, SingleScreenA, SingleScreenB, FourScreen}
 use Rattle.banks.specs.Banking.{isB, mirroringNumber, bankingInRange}
 use Rattle.banks.specs.Nametables.{nametableMirroring}
-use Rattle.banks.proofs.Entries.{entries-law}
+use Rattle.tables.proofs.Entries.{entries-law}
 use Rattle.vrc_irq.specs.Board.{step, line}
 use Rattle.vrc_irq.proofs.Board.{pace}
 use Rattle.audio.specs.declared.AudioRegister.{AudioRegister}

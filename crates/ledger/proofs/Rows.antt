@@ -12,7 +12,7 @@ use Rattle.banks.specs.declared.banking.Mirroring.{Mirroring}
 use Rattle.banks.specs.declared.banking.Revision.{Revision}
 use Rattle.banks.specs.Chr.{chrSlots}
 use Rattle.banks.specs.Nametables.{nametableNumbers, nametableMirroring}
-use Rattle.banks.specs.Tables.{cpuEntries, pictureEntries}
+use Rattle.tables.specs.Tables.{cpuEntries, pictureEntries}
 use Rattle.vrc_irq.specs.Board.{forecastAnswer}
 use Rattle.audio.specs.declared.Level.the-variants.{Refused as NoLevel}
 use Rattle.audio.specs.Pulses.{pulseWritten, pulseClocked, pulseLevel}

@@ -10,8 +10,9 @@ use Rattle.layout.specs.Pages.{unmapped}
 use Rattle.layout.specs.Entries.{entryInRange}
 use Rattle.paging.specs.Paging.{Side, cpu, picture, entryCount}
 use Rattle.banks.specs.Laws.{WellFormed}
-use Rattle.banks.proofs.Counts.{mirroring-count, numbers-count, count-law, repeat-law}
-use Rattle.banks.proofs.Entries.{entries-law}
+use Rattle.banks.proofs.Counts.{mirroring-count, numbers-count}
+use Rattle.tables.proofs.Counts.{count-law, repeat-law}
+use Rattle.tables.proofs.Entries.{entries-law}
 use Rattle.audio.specs.declared.Audio.{Audio}
 use Rattle.vrc6.specs.Boards.{State, Creation, table}
 use Rattle.ledger.specs.Ledger.{Registers, Timing, byteOf, settled, bankingOf, ledgerOf}

@@ -1,28 +1,142 @@
 // The board's calls for a host that keeps one board: it lends the board, and finds it advanced.
+//
+// Every call is total and refuses by number, and leaves board and buffers as they were where it refuses. A board and
+// its buffers cross as references, an answer as a number or a small struct.
+use layout::MemoryLayout;
+use memory::Peeked;
+use memory::peek;
+use told::ForecastTold;
+use told::LevelTold;
+use told::PageAt;
+use told::create_numbered;
+use told::forecast_told;
+use told::level_told;
+use told::page_at;
+use told::reset_board;
 use vrc6::Board;
+use vrc6::engine::engine_in_range;
+use vrc6::steady::Steady;
+use vrc6::steady::steady_timers;
+use writing::audio_written;
+use writing::banks_written;
+use writing::irq_written;
+use writing::reached;
+use writing::write_byte;
 ghost use mathlib.Core.Path.{_≡_};
+ghost use Rattle.paging.specs.Paging.{cpu, picture};
 ghost use Rattle.vrc6.specs.Boards.{heldBy};
-ghost use Rattle.vrc6.specs.Calls.{clock, cpuWrite, cpuWriteLeft};
-ghost use Rattle.lent.specs.Lent.{tickOf};
+ghost use Rattle.vrc6.specs.Calls.{byteRead, clock, cpuWrite, cpuWriteLeft, forecast, level, pictureWrite, pictureWriteLeft, reset};
+ghost use Rattle.told.specs.Told.{createdBy, forecastTold, levelTold, pageAt};
+ghost use Rattle.lent.specs.Lent.{byteOf, steadyClocked, tickNumber, tickOf, tickTold};
 
-// Whether a clock ticked, and the refusal's number.
-#[repr(C)]
-pub struct Tick {
-    pub ticked: bool,
-    pub refusal: u8,
+// Creation by numbers, since no enum crosses. A refused create leaves the zero board. The answer is the refusal's number.
+#[no_mangle]
+pub extern "C" fn lent_create(
+    board: &mut Board,
+    layout: MemoryLayout,
+    mirroring: u8,
+    revision: u8,
+    fixed: &[u8],
+    changing: &[u8],
+) -> u8
+    ensures { λ r. ⌜ (now (board .exit) ≡ createdBy layout mirroring revision (now (fixed .entry)) (now (changing .entry)) .board)
+        × (r ≡ createdBy layout mirroring revision (now (fixed .entry)) (now (changing .entry)) .refusal) ⌝ }
+{
+    let made = create_numbered(layout, mirroring, revision, fixed, changing);
+    *board = made.board;
+    made.refusal
+}
+
+// Soft and hard act alike, so there is one. The answer is the refusal's number.
+#[no_mangle]
+pub extern "C" fn lent_reset(board: &mut Board) -> u8
+    ensures { λ r. ⌜ (now (board .exit) ≡ reset (now (board .entry)) .board) × (r ≡ reset (now (board .entry)) .refusal) ⌝ }
+{
+    let b = *board;
+    let after = reset_board(b);
+    *board = after.board;
+    after.refusal
 }
 
 #[no_mangle]
-pub extern "C" fn lent_clock(board: &mut Board) -> Tick
-    ensures { λ r. ⌜ (now (board .exit) ≡ clock (now (board .entry)) .board) × (r ≡ tickOf (clock (now (board .entry)))) ⌝ }
+pub extern "C" fn lent_level(board: &mut Board) -> LevelTold
+    ensures { λ r. ⌜ (now (board .exit) ≡ now (board .entry)) × (r ≡ levelTold (level (now (board .entry)) .level)) ⌝ }
 {
     let b = *board;
-    let r = b.clock();
-    *board = r.board;
-    Tick {
-        ticked: r.ticked,
-        refusal: r.refusal,
-    }
+    level_told(b)
+}
+
+#[no_mangle]
+pub extern "C" fn lent_forecast(board: &mut Board) -> ForecastTold
+    ensures { λ r. ⌜ (now (board .exit) ≡ now (board .entry)) × (r ≡ forecastTold (forecast (now (board .entry)) .forecast)) ⌝ }
+{
+    let b = *board;
+    forecast_told(b)
+}
+
+// A byte, and no register. The answer is the refusal's number.
+#[no_mangle]
+pub extern "C" fn lent_picture_write(
+    board: &mut Board,
+    fixed: &[u8],
+    changing: &mut [u8],
+    addr: u16,
+    val: u8,
+) -> u8
+    ensures { λ r. ⌜ (now (board .exit) ≡ now (board .entry))
+        × (now (changing .exit) ≡ pictureWriteLeft (heldBy (now (board .entry)) (now (fixed .entry)) (now (changing .entry))) addr val .changing)
+        × (r ≡ pictureWrite (heldBy (now (board .entry)) (now (fixed .entry)) (now (changing .entry))) addr val .refusal) ⌝ }
+{
+    let b = *board;
+    let stored = b.picture_write(fixed, changing, addr, val);
+    stored.refusal
+}
+
+// Where the page of a picture address lies, for a host that keeps both buffers.
+#[no_mangle]
+pub extern "C" fn lent_page_view(
+    board: &mut Board,
+    fixed: &[u8],
+    changing: &[u8],
+    addr: u16,
+) -> PageAt
+    ensures { λ r. ⌜ (now (board .exit) ≡ now (board .entry))
+        × (r ≡ pageAt (heldBy (now (board .entry)) (now (fixed .entry)) (now (changing .entry))) addr) ⌝ }
+{
+    let b = *board;
+    page_at(b, fixed, changing, addr)
+}
+
+#[no_mangle]
+pub extern "C" fn lent_cpu_read(
+    board: &mut Board,
+    fixed: &[u8],
+    changing: &[u8],
+    addr: u16,
+) -> Peeked
+    ensures { λ r. ⌜ (now (board .exit) ≡ now (board .entry))
+        × (r ≡ byteOf (byteRead cpu (heldBy (now (board .entry)) (now (fixed .entry)) (now (changing .entry))) addr)) ⌝ }
+{
+    let slot = (addr / 1024 % 64) as usize;
+    let page = board.prg_pages[slot];
+    let layout = board.layout;
+    peek(layout, page, fixed, changing, addr)
+}
+
+#[no_mangle]
+pub extern "C" fn lent_picture_read(
+    board: &mut Board,
+    fixed: &[u8],
+    changing: &[u8],
+    addr: u16,
+) -> Peeked
+    ensures { λ r. ⌜ (now (board .exit) ≡ now (board .entry))
+        × (r ≡ byteOf (byteRead picture (heldBy (now (board .entry)) (now (fixed .entry)) (now (changing .entry))) addr)) ⌝ }
+{
+    let slot = (addr / 1024 % 16) as usize;
+    let page = board.chr_pages[slot];
+    let layout = board.layout;
+    peek(layout, page, fixed, changing, addr)
 }
 
 // The byte, then the register. The answer is the refusal's number.
@@ -38,8 +152,110 @@ pub extern "C" fn lent_cpu_write(
         × (now (changing .exit) ≡ cpuWriteLeft (heldBy (now (board .entry)) (now (fixed .entry)) (now (changing .entry))) addr val .changing)
         × (r ≡ cpuWrite (heldBy (now (board .entry)) (now (fixed .entry)) (now (changing .entry))) addr val .refusal) ⌝ }
 {
-    let b = *board;
-    let w = b.cpu_write(fixed, changing, addr, val);
-    *board = w.board;
-    w.refusal
+    let at = (addr / 1024 % 64) as usize;
+    let page = board.prg_pages[at];
+    let refusal = write_byte(
+        board.layout,
+        page,
+        board.banking,
+        board.irq,
+        board.audio,
+        fixed,
+        changing,
+        addr,
+        val,
+    );
+    if refusal != 0 {
+        return refusal;
+    } else {
+        let part = reached(board.banking.revision, addr);
+        if part == 1 {
+            let b = *board;
+            *board = banks_written(b, addr, val);
+            return 0;
+        } else {
+            if part == 2 {
+                board.audio = audio_written(board.banking.revision, board.audio, addr, val);
+                return 0;
+            } else {
+                if part == 3 {
+                    board.irq = irq_written(board.banking.revision, board.irq, addr, val);
+                    return 0;
+                } else {
+                    return 0;
+                }
+            }
+        }
+    }
+}
+
+// Whether a clock ticked, and the refusal's number.
+#[repr(C)]
+pub struct Tick {
+    pub ticked: bool,
+    pub refusal: u8,
+}
+
+// The answer that a number of `lent_clock_number` tells.
+fn told(number: u8) -> Tick
+    ensures { λ r. ⌜ r ≡ tickTold number ⌝ }
+{
+    Tick {
+        ticked: number == 1,
+        refusal: number / 2,
+    }
+}
+
+// A clock of a steady sound: of the sound it stores the timers only.
+fn clock_steady(board: &mut Board, steady: Steady) -> Tick
+    ensures { λ r. ⌜ (now (board .exit) ≡ steadyClocked (now (board .entry)) steady .board) × (r ≡ tickOf (steadyClocked (now (board .entry)) steady)) ⌝ }
+{
+    let irq = board.irq;
+    let next = irq.clock();
+    board.irq = next.irq;
+    board.audio.pulse1.timer = steady.timer1;
+    board.audio.pulse2.timer = steady.timer2;
+    board.audio.saw.timer = steady.timer3;
+    Tick {
+        ticked: next.ticked,
+        refusal: 0,
+    }
+}
+
+// Any clock but that of a steady sound is out of line, so that this one has few registers to save.
+#[no_mangle]
+pub extern "C" fn lent_clock(board: &mut Board) -> Tick
+    ensures { λ r. ⌜ (now (board .exit) ≡ clock (now (board .entry)) .board) × (r ≡ tickOf (clock (now (board .entry)))) ⌝ }
+{
+    let irq = board.irq;
+    let audio = board.audio;
+    let steady = steady_timers(irq, audio);
+    if steady.yes {
+        return clock_steady(board, steady);
+    } else {
+        let number = lent_clock_number(board);
+        return told(number);
+    }
+}
+
+// The same clock without the quick way, answering by one number: twice the refusal's, or 1 for a tick.
+#[no_mangle]
+pub extern "C" fn lent_clock_number(board: &mut Board) -> u8
+    ensures { λ r. ⌜ (now (board .exit) ≡ clock (now (board .entry)) .board) × (r ≡ tickNumber (clock (now (board .entry)))) ⌝ }
+{
+    let irq = board.irq;
+    let audio = board.audio;
+    if engine_in_range(irq, audio) {
+        let next = irq.clock();
+        let sound = audio.clock();
+        board.irq = next.irq;
+        board.audio = sound;
+        if next.ticked {
+            return 1;
+        } else {
+            return 0;
+        }
+    } else {
+        return 6;
+    }
 }

@@ -43,6 +43,7 @@ fn byte_at(fixed: &[u8], changing: &[u8], at: usize) -> u8
 }
 
 // A byte that was asked for, 0 where it is refused, and the refusal's number.
+#[repr(C)]
 pub struct Peeked {
     pub byte: u8,
     pub refusal: u8,

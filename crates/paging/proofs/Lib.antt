@@ -1,5 +1,7 @@
 pub mod Banks
 pub mod Remainders
 pub mod Rows
+pub mod Filling
 pub mod Shown
 pub mod Signed
+pub mod Unwrapped

@@ -3,7 +3,7 @@ use mathlib.Core.Path.{_≡_, refl, sym, ap, _∙_, subst}
 use mathlib.Core.Bool.{Bool, true, false, cond, true≢false, false≢true}
 use Prim.Native.Nat.{ℕ, zero, suc, _+_, _-_, _%_, _^_, _≤_, _<_}
 use native.Mathlib.Omega.{arith}
-use native.Mathlib.Nat.{mod-lt}
+use native.Mathlib.Nat.{mod-lt, mod-eq-of-lt}
 use lib.IntN.{ℤ, pos, negsuc, natAbs, _-ℤ_, subℕ}
 use lib.Signed.{mag, ltZ, nonNeg}
 use lib.Dec.{T, ltb}
@@ -71,3 +71,7 @@ module _ (b : ℤ) (f : SFits w32 b) (on : ltZ (held b) (pos 0) ≡ false) where
   returned-on m =
       ap (λ (z : ℤ). natAbs z % m) here
       ∙ ap (λ (z : ℤ). remEuclid z m) (sym here ∙ toZ-ofZ f)
+
+  -- below the count of banks the number is its own remainder
+  pub returned-below : (m : ℕ) → natAbs (held b) < m → natAbs (held b) ≡ remEuclid b m
+  returned-below m h = sym (mod-eq-of-lt h) ∙ returned-on m

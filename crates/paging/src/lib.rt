@@ -6,3 +6,4 @@
 pub mod chr_table;
 pub mod prg_table;
 pub mod rule;
+pub mod runs;

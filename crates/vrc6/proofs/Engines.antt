@@ -10,7 +10,7 @@ use Rattle.vrc_irq.specs.Interrupt.{irqZero}
 use Rattle.audio.specs.declared.Audio.{Audio}
 use Rattle.audio.specs.declared.Level.{Level}
 use Rattle.audio.specs.declared.Level.the-variants.{Refused as NoLevel}
-use Rattle.audio.specs.Sound.{audioClocked, audioReset}
+use Rattle.audio.specs.Sound.{audioClocked, audioReset, withTimers}
 use Rattle.audio.specs.Levels.{levelOf}
 use Rattle.vrc6.specs.declared.board.Board.{Board}
 use Rattle.vrc6.specs.declared.board.Clocked.{Clocked}
@@ -20,7 +20,7 @@ use Rattle.vrc6.specs.declared.engine.EngineClocked.{EngineClocked}
 use Rattle.vrc6.specs.Boards.{withEngine}
 use Rattle.vrc6.specs.Calls.{clock, reset, level, forecast, forecastOf, wasReset}
 use Rattle.vrc6.specs.Checks.{engineOk, engineNumber}
-use Rattle.vrc6.specs.Parts.{engineClocked}
+use Rattle.vrc6.specs.Parts.{engineClocked, onlyTimers}
 
 -- what a call gives by its test, where it does that where the test holds, and this where it is refused by 3
 module _ {A : Type 0} (f : ℕ → A) where
@@ -41,6 +41,11 @@ module _ (q : VrcIrq) (a : Audio) where
   pub engine-done : engineOk q a ≡ true
       → record { irq = clockAnswer q .irq; audio = audioClocked a; ticked = clockAnswer q .ticked; refusal = 0 } ≡ engineClocked q a
   engine-done e = by-three by-number (engineOk q a) true e
+
+  -- where of the sound a clock moves the timers only
+  pub engine-steady : (t u v : ℕ) → engineOk q a ≡ true → audioClocked a ≡ withTimers a t u v → engineClocked q a ≡ onlyTimers q a t u v
+  engine-steady t u v e m =
+      sym (engine-done e) ∙ (λ i. record { irq = clockAnswer q .irq; audio = m i; ticked = clockAnswer q .ticked; refusal = 0 })
 
   pub engine-refused : engineOk q a ≡ false → record { irq = q; audio = a; ticked = false; refusal = 3 } ≡ engineClocked q a
   engine-refused e = by-three by-number (engineOk q a) false e

@@ -1,4 +1,5 @@
 pub mod Creations
 pub mod Engines
+pub mod Timed
 pub mod Stores
 pub mod Zeros

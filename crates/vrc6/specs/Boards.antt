@@ -12,7 +12,7 @@ use Rattle.banks.specs.declared.banking.Banking.{Banking}
 use Rattle.banks.specs.declared.banking.Mirroring.{Mirroring}
 use Rattle.banks.specs.declared.banking.Revision.{Revision}
 use Rattle.banks.specs.Banking.{firstBanking, zeroBanking}
-use Rattle.banks.specs.Tables.{cpuEntries, pictureEntries}
+use Rattle.tables.specs.Tables.{cpuEntries, pictureEntries}
 use Rattle.vrc_irq.specs.declared.VrcIrq.{VrcIrq}
 use Rattle.vrc_irq.specs.Interrupt.{irqZero}
 use Rattle.audio.specs.declared.Audio.{Audio}

@@ -7,6 +7,7 @@ pub mod board;
 pub mod create;
 pub mod engine;
 pub mod reads;
+pub mod steady;
 pub mod writes;
 
 pub use board::Board;

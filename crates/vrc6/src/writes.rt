@@ -2,8 +2,6 @@
 use crate::board::Board;
 use crate::board::Written;
 use crate::engine::engine_in_range;
-use banks::tables::chr_pages;
-use banks::tables::prg_pages;
 use decode::BankRegister;
 use decode::IrqRegister;
 use decode::Register;
@@ -11,6 +9,8 @@ use decode::decode;
 use memory::access_refusal;
 use memory::store;
 use memory::write;
+use tables::chr_pages;
+use tables::prg_pages;
 use vrc_irq::VrcIrq;
 ghost use mathlib.Core.Path.{_≡_};
 ghost use Rattle.layout.specs.Inner.{Limits};
@@ -20,7 +20,7 @@ ghost use Rattle.vrc6.specs.Checks.{registerChecks};
 ghost use Rattle.vrc6.specs.Calls.{cpuWrite, cpuWriteLeft, irqWritten, pictureWrite, pictureWriteLeft, writtenAt};
 
 // An interrupt register takes a byte.
-fn write_irq(irq: VrcIrq, register: IrqRegister, val: u8) -> VrcIrq
+pub fn write_irq(irq: VrcIrq, register: IrqRegister, val: u8) -> VrcIrq
     ensures { λ r. ⌜ r ≡ irqWritten register val irq ⌝ }
 {
     match register {
@@ -32,7 +32,7 @@ fn write_irq(irq: VrcIrq, register: IrqRegister, val: u8) -> VrcIrq
 
 impl Board {
     // A bank register takes a byte, and every entry is rebuilt from the banking values.
-    fn write_bank(self, register: BankRegister, val: u8) -> Board
+    pub fn write_bank(self, register: BankRegister, val: u8) -> Board
         requires { ⌜ Limits (self .layout) ⌝ }
         ensures { λ r. ⌜ r ≡ paged (self .layout) (bankWritten register val (self .banking)) (self .irq) (self .audio) ⌝ }
     {
@@ -48,7 +48,7 @@ impl Board {
     }
 
     // The register that a CPU write reaches takes its byte.
-    fn write_register(self, addr: u16, val: u8) -> Board
+    fn write_register(mut self, addr: u16, val: u8) -> Board
         requires { ⌜ Limits (self .layout) ⌝ }
         ensures { λ r. ⌜ r ≡ writtenAt self addr val ⌝ }
     {
@@ -57,16 +57,12 @@ impl Board {
             Register::Nothing => self,
             Register::OfBank(register) => self.write_bank(register, val),
             Register::OfAudio(register) => {
-                let audio = self.audio.write_register(register, val);
-                let mut board = self;
-                board.audio = audio;
-                board
+                self.audio = self.audio.write_register(register, val);
+                self
             }
             Register::OfIrq(register) => {
-                let irq = write_irq(self.irq, register, val);
-                let mut board = self;
-                board.irq = irq;
-                board
+                self.irq = write_irq(self.irq, register, val);
+                self
             }
         }
     }

@@ -1,5 +1,5 @@
 -- `rem_euclid` meets its contract. Assumes nothing.
-use Rattle.paging.proofs.Signed.{fits, casts, low, returned, casts-on, returned-on}
+use Rattle.paging.proofs.Signed.{fits, casts, low, returned, casts-on, returned-on, returned-below}
 use borrow.Author.Needs.{needs}
 use Rattle.paging.proofs.rule.rem_euclid.Statement.{statement}
 use Rattle.paging.proofs.rule.rem_euclid.Tie as tie
@@ -22,14 +22,17 @@ sub-result-2 c = low _ (c .before .fits .bank) (c .if1 .taken) _ (search needs)
 returns : tie.Need-returns
 returns c = returned _ (c .before .fits .bank) (c .if1 .taken) _
 
-cast-result-2 : tie.Need-cast-result-2
-cast-result-2 c = casts-on _ (c .before .fits .bank) (c .if1 .left)
+cast-n : tie.Need-cast-n
+cast-n c = casts-on _ (c .before .fits .bank) (c .if1 .left)
+
+returns-2 : tie.Need-returns-2
+returns-2 c = returned-below _ (c .before .before .fits .bank) (c .before .if1 .left) _ (c .if2 .taken)
 
 rem-result-2 : tie.Need-rem-result-2
 rem-result-2 c = search needs
 
-returns-2 : tie.Need-returns-2
-returns-2 c = returned-on _ (c .before .fits .bank) (c .if1 .left) _
+returns-3 : tie.Need-returns-3
+returns-3 c = returned-on _ (c .before .before .fits .bank) (c .before .if1 .left) _
 
 pub rem-euclid-spec : {M : Type 1} → statement M
 rem-euclid-spec =
@@ -41,6 +44,7 @@ rem-euclid-spec =
     rem-result
     sub-result-2
     returns
-    cast-result-2
+    cast-n
+    returns-2
     rem-result-2
-    returns-2)
+    returns-3)

@@ -1,0 +1,4 @@
+pub mod Tables
+pub mod Inner
+pub mod Laws
+pub mod Positions

@@ -1,0 +1,87 @@
+-- What the lent forms answer beside the board that they advance (01, "The board's calls"). Assumes nothing.
+use mathlib.Core.Bool.{Bool, true, false, cond, _&&_}
+use mathlib.Core.List.{List, [], _∷_, _++_}
+use Prim.Native.Nat.{ℕ, zero, suc, _-_}
+use lib.Dec.{leb}
+use lib.Ieee.{binary32, ofBits}
+use lib.ListN.{length, take}
+use Rattle.basics.specs.Refusals.{firstFailing, unless}
+use Rattle.layout.specs.declared.regions.MemoryLayout.{MemoryLayout}
+use Rattle.layout.specs.Layout.{layoutChecks}
+use Rattle.layout.specs.Pages.{offset as offsetOf}
+use Rattle.paging.specs.Paging.{picture}
+use Rattle.banks.specs.declared.banking.Mirroring.{Mirroring}
+use Rattle.banks.specs.declared.banking.Mirroring.the-variants.{Vertical, Horizontal, SingleScreenA, SingleScreenB, FourScreen}
+use Rattle.banks.specs.declared.banking.Revision.{Revision}
+use Rattle.banks.specs.declared.banking.Revision.the-variants.{A, B}
+use Rattle.audio.specs.declared.Level.{Level}
+use Rattle.audio.specs.declared.Level.the-variants.{Silent, Held, Playing, Refused as NoLevel}
+use Rattle.vrc6.specs.declared.board.Created.{Created}
+use Rattle.vrc6.specs.declared.board.Forecast.{Forecast}
+use Rattle.vrc6.specs.declared.board.Forecast.the-variants.{None, In, Refused}
+use Rattle.vrc6.specs.Boards.{State, entryOf, zeroBoard}
+use Rattle.vrc6.specs.Checks.{allZero}
+use Rattle.vrc6.specs.Calls.{create, pageViewRefusal}
+use Rattle.told.specs.declared.LevelTold.{LevelTold}
+use Rattle.told.specs.declared.ForecastTold.{ForecastTold}
+use Rattle.told.specs.declared.PageAt.{PageAt}
+
+-- ---- create, by numbers
+-- the mirroring of a number, in the Rust's order
+abbrev pub mirroringOf : ℕ → Mirroring
+mirroringOf zero = Vertical
+mirroringOf (suc zero) = Horizontal
+mirroringOf (suc (suc zero)) = SingleScreenA
+mirroringOf (suc (suc (suc zero))) = SingleScreenB
+mirroringOf (suc (suc (suc (suc n)))) = FourScreen
+
+-- the revision of a number
+abbrev pub revisionOf : ℕ → Revision
+revisionOf zero = A
+revisionOf (suc n) = B
+
+-- both numbers name something
+abbrev pub numbersNamed : (mirroring revision : ℕ) → Bool
+numbersNamed m r = leb m 4 && leb r 1
+
+-- the first failing of 1, 2, 3 and 4; here 3 is a number that names nothing
+abbrev pub numberedRefusal : MemoryLayout → (mirroring revision : ℕ) → (fixed changing : List ℕ) → ℕ
+numberedRefusal l m r fixed changing =
+    firstFailing (layoutChecks l (length fixed) (length changing) ++ (numbersNamed m r, 3) ∷ (allZero (take 1024 fixed), 4) ∷ [])
+
+-- the board that `create` makes of what the numbers name, or refused the all-zero one, and the number
+abbrev pub createdBy : MemoryLayout → (mirroring revision : ℕ) → (fixed changing : List ℕ) → Created
+createdBy l m r fixed changing =
+    record {
+      board =
+          unless (numberedRefusal l m r fixed changing)
+          (create (record { layout = l; mirroring = mirroringOf m; revision = revisionOf r; fixed = fixed; changing = changing }) .board)
+          zeroBoard;
+      refusal = numberedRefusal l m r fixed changing;
+    }
+
+-- ---- level and forecast, told in numbers
+-- a level; refused it is 0.0 and silent, with the number
+abbrev pub levelTold : Level → LevelTold
+levelTold (Silent x) = record { level = x; name = 0; refusal = 0 }
+levelTold (Held x) = record { level = x; name = 1; refusal = 0 }
+levelTold (Playing x) = record { level = x; name = 2; refusal = 0 }
+levelTold (NoLevel n) = record { level = ofBits binary32 0; name = 0; refusal = n }
+
+-- a forecast; where there is none, or it is refused, the clocks are 0
+abbrev pub forecastTold : Forecast → ForecastTold
+forecastTold None = record { clocks = 0; armed = false; refusal = 0 }
+forecastTold (In n) = record { clocks = n; armed = true; refusal = 0 }
+forecastTold (Refused n) = record { clocks = 0; armed = false; refusal = n }
+
+-- ---- page view, told as a place
+-- where the picture entry of an address points, counted in its own buffer: in the fixed one up to that one's length, from there on in the changing one
+abbrev pub pageAt : State → (address : ℕ) → PageAt
+pageAt x address =
+    let at = offsetOf (entryOf picture (x .board) address) in
+    let behind = leb (length (x .fixed)) at in
+    record {
+      offset = unless (pageViewRefusal x address) (cond behind (at - length (x .fixed)) at) 0;
+      changing = unless (pageViewRefusal x address) behind false;
+      refusal = pageViewRefusal x address;
+    }

@@ -1,0 +1,198 @@
+// What the lent forms answer, and the calls by value that they are made of: numbers in place of enums, which do not cross.
+use audio::Level;
+use banks::banking::Mirroring;
+use banks::banking::Revision;
+use layout::MemoryLayout;
+use paging::chr_table::chr_lookup;
+use vrc6::Board;
+use vrc6::board::Created;
+use vrc6::board::Forecast;
+use vrc6::board::ResetKind;
+use vrc6::board::Written;
+ghost use mathlib.Core.Path.{_≡_};
+ghost use Rattle.vrc6.specs.Boards.{heldBy};
+ghost use Rattle.vrc6.specs.Calls.{forecast, level, reset};
+ghost use Rattle.told.specs.Told.{createdBy, forecastTold, levelTold, mirroringOf, numbersNamed, pageAt, revisionOf};
+
+// The level; its name, 0 silent, 1 held, 2 playing; the refusal's number. Refused, level and name are 0.
+#[repr(C)]
+pub struct LevelTold {
+    pub level: f32,
+    pub name: u8,
+    pub refusal: u8,
+}
+
+// The clocks until the interrupt, 0 where the counter is not armed or the call is refused.
+#[repr(C)]
+pub struct ForecastTold {
+    pub clocks: u32,
+    pub armed: bool,
+    pub refusal: u8,
+}
+
+// A page is the 1,024 bytes from offset of the fixed buffer, or of the changing one. Refused, offset is 0.
+#[repr(C)]
+pub struct PageAt {
+    pub offset: u32,
+    pub changing: bool,
+    pub refusal: u8,
+}
+
+fn mirroring_of(number: u8) -> Mirroring
+    ensures { λ r. ⌜ r ≡ mirroringOf number ⌝ }
+{
+    if number == 0 {
+        return Mirroring::Vertical;
+    }
+    if number == 1 {
+        return Mirroring::Horizontal;
+    }
+    if number == 2 {
+        return Mirroring::SingleScreenA;
+    }
+    if number == 3 {
+        return Mirroring::SingleScreenB;
+    }
+    Mirroring::FourScreen
+}
+
+fn revision_of(number: u8) -> Revision
+    ensures { λ r. ⌜ r ≡ revisionOf number ⌝ }
+{
+    if number == 0 {
+        return Revision::A;
+    }
+    Revision::B
+}
+
+// Whether both numbers name something.
+fn numbers_named(mirroring: u8, revision: u8) -> bool
+    ensures { λ r. ⌜ r ≡ numbersNamed mirroring revision ⌝ }
+{
+    (mirroring <= 4) & (revision <= 1)
+}
+
+// A number that names nothing is refused by 3, after conditions 1 and 2.
+pub fn create_numbered(
+    layout: MemoryLayout,
+    mirroring: u8,
+    revision: u8,
+    fixed: &[u8],
+    changing: &[u8],
+) -> Created
+    ensures { λ r. ⌜ r ≡ createdBy layout mirroring revision (now (fixed .entry)) (now (changing .entry)) ⌝ }
+{
+    let m = mirroring_of(mirroring);
+    let r = revision_of(revision);
+    if numbers_named(mirroring, revision) {
+        return Board::create(layout, m, r, fixed, changing);
+    }
+    // An empty buffer fits no layout, so this gives the zero board.
+    let refused = Board::create(layout, m, r, &fixed[0..0], changing);
+    let board = refused.board;
+    let refusal = layout.refusal(fixed.len(), changing.len());
+    if refusal != 0 {
+        return Created { board, refusal };
+    }
+    Created { board, refusal: 3 }
+}
+
+pub fn reset_board(b: Board) -> Written
+    ensures { λ r. ⌜ r ≡ reset b ⌝ }
+{
+    b.reset(ResetKind::Soft)
+}
+
+fn of_level(level: Level) -> LevelTold
+    ensures { λ r. ⌜ r ≡ levelTold level ⌝ }
+{
+    match level {
+        Level::Silent(level) => LevelTold {
+            level,
+            name: 0,
+            refusal: 0,
+        },
+        Level::Held(level) => LevelTold {
+            level,
+            name: 1,
+            refusal: 0,
+        },
+        Level::Playing(level) => LevelTold {
+            level,
+            name: 2,
+            refusal: 0,
+        },
+        Level::Refused(refusal) => LevelTold {
+            level: 0.0,
+            name: 0,
+            refusal,
+        },
+    }
+}
+
+fn of_forecast(forecast: Forecast) -> ForecastTold
+    ensures { λ r. ⌜ r ≡ forecastTold forecast ⌝ }
+{
+    match forecast {
+        Forecast::None => ForecastTold {
+            clocks: 0,
+            armed: false,
+            refusal: 0,
+        },
+        Forecast::In(clocks) => ForecastTold {
+            clocks,
+            armed: true,
+            refusal: 0,
+        },
+        Forecast::Refused(refusal) => ForecastTold {
+            clocks: 0,
+            armed: false,
+            refusal,
+        },
+    }
+}
+
+pub fn level_told(b: Board) -> LevelTold
+    ensures { λ r. ⌜ r ≡ levelTold (level b .level) ⌝ }
+{
+    let r = b.level();
+    let level = r.level;
+    of_level(level)
+}
+
+pub fn forecast_told(b: Board) -> ForecastTold
+    ensures { λ r. ⌜ r ≡ forecastTold (forecast b .forecast) ⌝ }
+{
+    let r = b.forecast();
+    let forecast = r.forecast;
+    of_forecast(forecast)
+}
+
+// The place of a picture entry, with the buffer told apart.
+pub fn page_at(b: Board, fixed: &[u8], changing: &[u8], addr: u16) -> PageAt
+    ensures { λ r. ⌜ r ≡ pageAt (heldBy b (now (fixed .entry)) (now (changing .entry))) addr ⌝ }
+{
+    let refusal = b.page_view_refusal(fixed, changing, addr);
+    if refusal != 0 {
+        return PageAt {
+            offset: 0,
+            changing: false,
+            refusal,
+        };
+    }
+    let pages = b.chr_pages;
+    let offset = chr_lookup(pages, addr).page().offset();
+    let start = fixed.len();
+    if (offset as usize) < start {
+        return PageAt {
+            offset,
+            changing: false,
+            refusal,
+        };
+    }
+    PageAt {
+        offset: (offset as usize - start) as u32,
+        changing: true,
+        refusal,
+    }
+}

@@ -1,0 +1,64 @@
+-- A CPU write by the parts of a board that it reads and changes (01, "The board's calls"; vrc6's specs/Calls says it of a whole board). Assumes nothing.
+use mathlib.Core.Bool.{Bool, _&&_, _||_, cond}
+use mathlib.Core.List.{List}
+use Prim.Native.Nat.{ℕ}
+use lib.Dec.{ltb}
+use lib.ListN.{length}
+use Rattle.basics.specs.Refusals.{unless}
+use Rattle.layout.specs.declared.page.Page.{Page}
+use Rattle.layout.specs.declared.regions.MemoryLayout.{MemoryLayout}
+use Rattle.layout.specs.Layout.{withinLimits}
+use Rattle.memory.specs.Access.{accessRefusal, stored}
+use Rattle.vrc_irq.specs.declared.VrcIrq.{VrcIrq}
+use Rattle.audio.specs.declared.Audio.{Audio}
+use Rattle.audio.specs.Sound.{audioWritten}
+use Rattle.decode.specs.declared.Register.{Register}
+use Rattle.decode.specs.declared.Register.the-variants.{Nothing, OfBank, OfAudio, OfIrq}
+use Rattle.banks.specs.declared.banking.Banking.{Banking}
+use Rattle.banks.specs.Banking.{bankingInRange, bankWritten}
+use Rattle.vrc6.specs.declared.board.Board.{Board}
+use Rattle.vrc6.specs.Boards.{paged}
+use Rattle.vrc6.specs.Checks.{engineOk}
+use Rattle.vrc6.specs.Calls.{irqWritten}
+
+-- what a CPU write from $8000 up checks beside its entry (vrc6's `registerChecks`)
+abbrev pub valuesInRange : Banking → VrcIrq → Audio → (address : ℕ) → Bool
+valuesInRange k q a address = ltb address 0x8000 || (bankingInRange k && engineOk q a)
+
+-- the number, others saying whether those values are in range
+abbrev pub byteRefusal : MemoryLayout → Page → (others : Bool) → (fixed changing : List ℕ) → ℕ
+byteRefusal l e others fixed changing = accessRefusal l e (length fixed) (length changing) others
+
+-- the changing buffer after the byte
+abbrev pub byteLeft : MemoryLayout → Page → (others : Bool) → (fixed changing : List ℕ) → (address byte : ℕ) → List ℕ
+byteLeft l e others fixed changing address byte =
+    unless (byteRefusal l e others fixed changing) (stored (length fixed) e changing address byte) changing
+
+-- the part of the board that a register belongs to, as a number
+abbrev pub partOf : Register → ℕ
+partOf Nothing = 0
+partOf (OfBank _) = 1
+partOf (OfAudio _) = 2
+partOf (OfIrq _) = 3
+
+-- the board after its bank register took a byte; a layout above the limits is left alone
+abbrev pub banksAfter : Register → (byte : ℕ) → Board → Board
+banksAfter Nothing byte b = b
+banksAfter (OfBank r) byte b =
+    cond (withinLimits (b .layout)) (paged (b .layout) (bankWritten r byte (b .banking)) (b .irq) (b .audio)) b
+banksAfter (OfAudio _) byte b = b
+banksAfter (OfIrq _) byte b = b
+
+-- the sound after its register took a byte
+abbrev pub audioAfter : Register → (byte : ℕ) → Audio → Audio
+audioAfter Nothing byte a = a
+audioAfter (OfBank _) byte a = a
+audioAfter (OfAudio r) byte a = audioWritten r byte a
+audioAfter (OfIrq _) byte a = a
+
+-- the interrupt after its register took a byte
+abbrev pub irqAfter : Register → (byte : ℕ) → VrcIrq → VrcIrq
+irqAfter Nothing byte q = q
+irqAfter (OfBank _) byte q = q
+irqAfter (OfAudio _) byte q = q
+irqAfter (OfIrq r) byte q = irqWritten r byte q

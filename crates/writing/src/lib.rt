@@ -1,0 +1,107 @@
+// A CPU write in steps: its byte, which part of the board its address reaches, and that part with the byte taken.
+use audio::Audio;
+use banks::banking::Banking;
+use decode::Register;
+use decode::decode;
+use layout::MemoryLayout;
+use layout::Page;
+use memory::access_refusal;
+use memory::store;
+use vrc_irq::VrcIrq;
+use vrc6::Board;
+use vrc6::engine::engine_in_range;
+use vrc6::writes::write_irq;
+ghost use mathlib.Core.Path.{_≡_};
+ghost use lib.ListN.{length};
+ghost use Rattle.decode.specs.Decode.{decode};
+ghost use Rattle.writing.specs.Writing.{audioAfter, banksAfter, byteLeft, byteRefusal, irqAfter, partOf, valuesInRange};
+
+// Whether what a CPU write checks beside its entry is in range.
+fn values_in_range(banking: Banking, irq: VrcIrq, audio: Audio, addr: u16) -> bool
+    ensures { λ r. ⌜ r ≡ valuesInRange banking irq audio addr ⌝ }
+{
+    if addr < 0x8000 {
+        return true;
+    }
+    banking.in_range() & engine_in_range(irq, audio)
+}
+
+// The byte, if nothing is refused; the refusal's number.
+pub fn write_byte(
+    layout: MemoryLayout,
+    page: Page,
+    banking: Banking,
+    irq: VrcIrq,
+    audio: Audio,
+    fixed: &[u8],
+    changing: &mut [u8],
+    addr: u16,
+    val: u8,
+) -> u8
+    ensures { λ r. ⌜ (r ≡ byteRefusal layout page (valuesInRange banking irq audio addr) (now (fixed .entry)) (now (changing .entry)))
+        × (now (changing .exit) ≡ byteLeft layout page (valuesInRange banking irq audio addr) (now (fixed .entry)) (now (changing .entry)) addr val) ⌝ }
+{
+    let others = values_in_range(banking, irq, audio, addr);
+    let refusal = access_refusal(layout, page, fixed.len(), changing.len(), others);
+    if refusal != 0 {
+        return refusal;
+    }
+    store(page, fixed.len(), changing, addr, val);
+    refusal
+}
+
+// The part that an address reaches, which below $8000 is none: 0 for none, 1 for the banks, 2 for the sound, 3 for the interrupt.
+pub fn reached(revision: bool, addr: u16) -> u8
+    ensures { λ r. ⌜ r ≡ partOf (decode revision addr) ⌝ }
+{
+    if 0x8000 <= addr {
+        return match decode(revision, addr) {
+            Register::Nothing => 0,
+            Register::OfBank(bank) => 1,
+            Register::OfAudio(sound) => 2,
+            Register::OfIrq(line) => 3,
+        };
+    }
+    0
+}
+
+// The board after a bank write, within the layout's limits.
+pub fn banks_written(board: Board, addr: u16, val: u8) -> Board
+    ensures { λ r. ⌜ r ≡ banksAfter (decode (board .banking .revision) addr) val board ⌝ }
+{
+    let layout = board.layout;
+    if layout.within_limits() {
+        let banking = board.banking;
+        return match decode(banking.revision, addr) {
+            Register::Nothing => board,
+            Register::OfBank(bank) => board.write_bank(bank, val),
+            Register::OfAudio(sound) => board,
+            Register::OfIrq(line) => board,
+        };
+    }
+    board
+}
+
+// The sound after a write to one of its registers.
+pub fn audio_written(revision: bool, audio: Audio, addr: u16, val: u8) -> Audio
+    ensures { λ r. ⌜ r ≡ audioAfter (decode revision addr) val audio ⌝ }
+{
+    match decode(revision, addr) {
+        Register::Nothing => audio,
+        Register::OfBank(bank) => audio,
+        Register::OfAudio(sound) => audio.write_register(sound, val),
+        Register::OfIrq(line) => audio,
+    }
+}
+
+// The interrupt after a write to one of its registers.
+pub fn irq_written(revision: bool, irq: VrcIrq, addr: u16, val: u8) -> VrcIrq
+    ensures { λ r. ⌜ r ≡ irqAfter (decode revision addr) val irq ⌝ }
+{
+    match decode(revision, addr) {
+        Register::Nothing => irq,
+        Register::OfBank(bank) => irq,
+        Register::OfAudio(sound) => irq,
+        Register::OfIrq(line) => write_irq(irq, line, val),
+    }
+}
