@@ -15,36 +15,22 @@ use Rattle.vrc6.specs.Calls.{clock, clocked}
 use Rattle.vrc6.specs.Checks.{engineOk}
 use Rattle.vrc6.specs.Parts.{engineClocked, onlyTimers}
 use Rattle.vrc6.proofs.Engines.{by-three, rejoined, clock-joined}
-use Rattle.lent.specs.Lent.{tickOf, tickNumber, tickTold, steadyClocked}
+use Rattle.told.specs.Told.{tickNumber, clockNumbered, steadyClocked}
+use Rattle.lent.specs.Lent.{tickOf, tickTold}
 
 module _ (h : Board) where
-  -- a clock's answer, by the number of its refusal
-  abbrev byNumber : ℕ → Clocked
-  byNumber n = record { board = unless n (clocked h) h; ticked = unless n (clockAnswer (h .irq) .ticked) false; refusal = n }
-
-  -- a clock that is not refused, with the interrupt's answer and the sound after it
-  abbrev pub advanced : IrqClocked → Audio → Clocked
-  advanced n a = record { board = withEngine h (n .irq) a; ticked = n .ticked; refusal = 0 }
-
-  pub done : (n : IrqClocked) (a : Audio) → engineOk (h .irq) (h .audio) ≡ true → n ≡ clockAnswer (h .irq) → a ≡ audioClocked (h .audio)
-      → advanced n a ≡ clock h
-  done n a e p q = (λ i. advanced (p i) (q i)) ∙ by-three byNumber (engineOk (h .irq) (h .audio)) true e
-
-  pub refused : engineOk (h .irq) (h .audio) ≡ false → record { board = h; ticked = false; refusal = 3 } ≡ clock h
-  refused e = by-three byNumber (engineOk (h .irq) (h .audio)) false e
-
   -- where of the sound it moves the timers only
   pub steady : (s : Steady) → engineClocked (h .irq) (h .audio) ≡ onlyTimers (h .irq) (h .audio) (s .timer1) (s .timer2) (s .timer3) → steadyClocked h s ≡ clock h
   steady s e = ap (rejoined h) (sym e) ∙ clock-joined h
 
   -- what the number tells is the answer
-  pub by-number : (r : ℕ) → r ≡ tickNumber (clock h) → tickTold r ≡ tickOf (clock h)
+  pub by-number : (r : ℕ) → r ≡ clockNumbered h .number → tickTold r ≡ tickOf (clock h)
   by-number r e = ap tickTold e ∙ go (engineOk (h .irq) (h .audio)) (clockAnswer (h .irq) .ticked)
     where
       answer : Bool → Bool → Clocked
       answer ok t = record { board = h; ticked = unless (cond ok 0 3) t false; refusal = cond ok 0 3 }
 
-      go : (ok t : Bool) → tickTold (tickNumber (answer ok t)) ≡ tickOf (answer ok t)
+      go : (ok t : Bool) → tickTold (tickNumber (answer ok t .ticked) (answer ok t .refusal)) ≡ tickOf (answer ok t)
       go true true = refl
       go true false = refl
       go false t = refl

@@ -4,4 +4,4 @@ pub mod Walk
 pub mod BufferWalk
 pub mod Answers
 pub mod Parts
-pub mod Puts
+pub mod Writes

@@ -8,26 +8,27 @@ use memory::peek;
 use told::ForecastTold;
 use told::LevelTold;
 use told::PageAt;
+use told::clock_numbered;
 use told::create_numbered;
 use told::forecast_told;
 use told::level_told;
 use told::page_at;
 use told::reset_board;
+use told::steady_clock;
 use vrc6::Board;
-use vrc6::engine::engine_in_range;
 use vrc6::steady::Steady;
 use vrc6::steady::steady_timers;
-use writing::audio_written;
 use writing::banks_written;
-use writing::irq_written;
+use writing::line_written;
 use writing::reached;
+use writing::sound_written;
 use writing::write_byte;
 ghost use mathlib.Core.Path.{_≡_};
 ghost use Rattle.paging.specs.Paging.{cpu, picture};
 ghost use Rattle.vrc6.specs.Boards.{heldBy};
 ghost use Rattle.vrc6.specs.Calls.{byteRead, clock, cpuWrite, cpuWriteLeft, forecast, level, pictureWrite, pictureWriteLeft, reset};
-ghost use Rattle.told.specs.Told.{createdBy, forecastTold, levelTold, pageAt};
-ghost use Rattle.lent.specs.Lent.{byteOf, steadyClocked, tickNumber, tickOf, tickTold};
+ghost use Rattle.told.specs.Told.{clockNumbered, createdBy, forecastTold, levelTold, pageAt, steadyClocked};
+ghost use Rattle.lent.specs.Lent.{byteOf, tickOf, tickTold};
 
 // Creation by numbers, since no enum crosses. A refused create leaves the zero board. The answer is the refusal's number.
 #[no_mangle]
@@ -175,11 +176,13 @@ pub extern "C" fn lent_cpu_write(
             return 0;
         } else {
             if part == 2 {
-                board.audio = audio_written(board.banking.revision, board.audio, addr, val);
+                let b = *board;
+                *board = sound_written(b, addr, val);
                 return 0;
             } else {
                 if part == 3 {
-                    board.irq = irq_written(board.banking.revision, board.irq, addr, val);
+                    let b = *board;
+                    *board = line_written(b, addr, val);
                     return 0;
                 } else {
                     return 0;
@@ -206,19 +209,16 @@ fn told(number: u8) -> Tick
     }
 }
 
-// A clock of a steady sound: of the sound it stores the timers only.
+// A clock of a steady sound: of the sound only the timers are stored anew.
 fn clock_steady(board: &mut Board, steady: Steady) -> Tick
     ensures { λ r. ⌜ (now (board .exit) ≡ steadyClocked (now (board .entry)) steady .board) × (r ≡ tickOf (steadyClocked (now (board .entry)) steady)) ⌝ }
 {
-    let irq = board.irq;
-    let next = irq.clock();
-    board.irq = next.irq;
-    board.audio.pulse1.timer = steady.timer1;
-    board.audio.pulse2.timer = steady.timer2;
-    board.audio.saw.timer = steady.timer3;
+    let b = *board;
+    let moved = steady_clock(b, steady);
+    *board = moved.board;
     Tick {
-        ticked: next.ticked,
-        refusal: 0,
+        ticked: moved.ticked,
+        refusal: moved.refusal,
     }
 }
 
@@ -241,21 +241,10 @@ pub extern "C" fn lent_clock(board: &mut Board) -> Tick
 // The same clock without the quick way, answering by one number: twice the refusal's, or 1 for a tick.
 #[no_mangle]
 pub extern "C" fn lent_clock_number(board: &mut Board) -> u8
-    ensures { λ r. ⌜ (now (board .exit) ≡ clock (now (board .entry)) .board) × (r ≡ tickNumber (clock (now (board .entry)))) ⌝ }
+    ensures { λ r. ⌜ (now (board .exit) ≡ clock (now (board .entry)) .board) × (r ≡ clockNumbered (now (board .entry)) .number) ⌝ }
 {
-    let irq = board.irq;
-    let audio = board.audio;
-    if engine_in_range(irq, audio) {
-        let next = irq.clock();
-        let sound = audio.clock();
-        board.irq = next.irq;
-        board.audio = sound;
-        if next.ticked {
-            return 1;
-        } else {
-            return 0;
-        }
-    } else {
-        return 6;
-    }
+    let b = *board;
+    let clocked = clock_numbered(b);
+    *board = clocked.board;
+    clocked.number
 }

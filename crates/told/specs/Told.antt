@@ -1,7 +1,7 @@
 -- What the lent forms answer beside the board that they advance (01, "The board's calls"). Assumes nothing.
 use mathlib.Core.Bool.{Bool, true, false, cond, _&&_}
 use mathlib.Core.List.{List, [], _∷_, _++_}
-use Prim.Native.Nat.{ℕ, zero, suc, _-_}
+use Prim.Native.Nat.{ℕ, zero, suc, _-_, _*_}
 use lib.Dec.{leb}
 use lib.Ieee.{binary32, ofBits}
 use lib.ListN.{length, take}
@@ -16,15 +16,21 @@ use Rattle.banks.specs.declared.banking.Revision.{Revision}
 use Rattle.banks.specs.declared.banking.Revision.the-variants.{A, B}
 use Rattle.audio.specs.declared.Level.{Level}
 use Rattle.audio.specs.declared.Level.the-variants.{Silent, Held, Playing, Refused as NoLevel}
+use Rattle.vrc_irq.specs.Board.{clockAnswer}
+use Rattle.audio.specs.Sound.{withTimers}
+use Rattle.vrc6.specs.declared.board.Board.{Board}
+use Rattle.vrc6.specs.declared.board.Clocked.{Clocked}
 use Rattle.vrc6.specs.declared.board.Created.{Created}
+use Rattle.vrc6.specs.declared.steady.Steady.{Steady}
 use Rattle.vrc6.specs.declared.board.Forecast.{Forecast}
 use Rattle.vrc6.specs.declared.board.Forecast.the-variants.{None, In, Refused}
-use Rattle.vrc6.specs.Boards.{State, entryOf, zeroBoard}
+use Rattle.vrc6.specs.Boards.{State, entryOf, withEngine, zeroBoard}
 use Rattle.vrc6.specs.Checks.{allZero}
-use Rattle.vrc6.specs.Calls.{create, pageViewRefusal}
+use Rattle.vrc6.specs.Calls.{clock, create, pageViewRefusal}
 use Rattle.told.specs.declared.LevelTold.{LevelTold}
 use Rattle.told.specs.declared.ForecastTold.{ForecastTold}
 use Rattle.told.specs.declared.PageAt.{PageAt}
+use Rattle.told.specs.declared.Numbered.{Numbered}
 
 -- ---- create, by numbers
 -- the mirroring of a number, in the Rust's order
@@ -84,4 +90,22 @@ pageAt x address =
       offset = unless (pageViewRefusal x address) (cond behind (at - length (x .fixed)) at) 0;
       changing = unless (pageViewRefusal x address) behind false;
       refusal = pageViewRefusal x address;
+    }
+
+-- ---- clock
+-- a clock's answer as one number: 1 for a tick, otherwise twice the refusal's number
+abbrev pub tickNumber : (ticked : Bool) → (refusal : ℕ) → ℕ
+tickNumber ticked refusal = cond ticked 1 (refusal * 2)
+
+-- a clock, its answer as that number
+abbrev pub clockNumbered : Board → Numbered
+clockNumbered b = record { board = clock b .board; number = tickNumber (clock b .ticked) (clock b .refusal) }
+
+-- a clock that is not refused, and moves of the sound the timers only, to these
+abbrev pub steadyClocked : Board → Steady → Clocked
+steadyClocked b s =
+    record {
+      board = withEngine b (clockAnswer (b .irq) .irq) (withTimers (b .audio) (s .timer1) (s .timer2) (s .timer3));
+      ticked = clockAnswer (b .irq) .ticked;
+      refusal = 0;
     }

@@ -5,14 +5,17 @@ use banks::banking::Revision;
 use layout::MemoryLayout;
 use paging::chr_table::chr_lookup;
 use vrc6::Board;
+use vrc6::board::Clocked;
 use vrc6::board::Created;
 use vrc6::board::Forecast;
 use vrc6::board::ResetKind;
 use vrc6::board::Written;
+use vrc6::steady::Steady;
 ghost use mathlib.Core.Path.{_≡_};
+ghost use Prim.Native.Nat.{_≤_};
 ghost use Rattle.vrc6.specs.Boards.{heldBy};
 ghost use Rattle.vrc6.specs.Calls.{forecast, level, reset};
-ghost use Rattle.told.specs.Told.{createdBy, forecastTold, levelTold, mirroringOf, numbersNamed, pageAt, revisionOf};
+ghost use Rattle.told.specs.Told.{clockNumbered, createdBy, forecastTold, levelTold, mirroringOf, numbersNamed, pageAt, revisionOf, steadyClocked, tickNumber};
 
 // The level; its name, 0 silent, 1 held, 2 playing; the refusal's number. Refused, level and name are 0.
 #[repr(C)]
@@ -194,5 +197,49 @@ pub fn page_at(b: Board, fixed: &[u8], changing: &[u8], addr: u16) -> PageAt
         offset: (offset as usize - start) as u32,
         changing: true,
         refusal,
+    }
+}
+
+// A board, and a clock's answer as one number.
+pub struct Numbered {
+    pub board: Board,
+    pub number: u8,
+}
+
+// 1 for a tick, otherwise twice the refusal's number.
+fn tick_number(ticked: bool, refusal: u8) -> u8
+    requires { ⌜ refusal ≤ 3 ⌝ }
+    ensures { λ r. ⌜ r ≡ tickNumber ticked refusal ⌝ }
+{
+    if ticked {
+        return 1;
+    }
+    refusal * 2
+}
+
+pub fn clock_numbered(b: Board) -> Numbered
+    ensures { λ r. ⌜ r ≡ clockNumbered b ⌝ }
+{
+    let after = b.clock();
+    let board = after.board;
+    let number = tick_number(after.ticked, after.refusal);
+    Numbered { board, number }
+}
+
+// A clock that moves of the sound its timers only.
+pub fn steady_clock(b: Board, steady: Steady) -> Clocked
+    ensures { λ r. ⌜ r ≡ steadyClocked b steady ⌝ }
+{
+    let next = b.irq.clock();
+    let irq = next.irq;
+    let mut board = b;
+    board.irq = irq;
+    board.audio.pulse1.timer = steady.timer1;
+    board.audio.pulse2.timer = steady.timer2;
+    board.audio.saw.timer = steady.timer3;
+    Clocked {
+        board,
+        ticked: next.ticked,
+        refusal: 0,
     }
 }

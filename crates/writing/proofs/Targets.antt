@@ -14,9 +14,9 @@ use Rattle.decode.specs.declared.Register.{Register}
 use Rattle.decode.specs.declared.Register.the-variants.{Nothing, OfBank, OfAudio, OfIrq}
 use Rattle.banks.specs.Banking.{bankWritten}
 use Rattle.vrc6.specs.declared.board.Board.{Board}
-use Rattle.vrc6.specs.Boards.{paged, withEngine}
+use Rattle.vrc6.specs.Boards.{paged}
 use Rattle.vrc6.specs.Calls.{registerWritten}
-use Rattle.writing.specs.Writing.{partOf, banksAfter, audioAfter, irqAfter}
+use Rattle.writing.specs.Writing.{partOf, banksAfter, soundAfter, lineAfter}
 
 -- a call that is not refused has its layout within the limits
 pub limited : (l : MemoryLayout) (e : Page) (fixed changing : ℕ) (others : Bool) → accessRefusal l e fixed changing others ≡ 0 → withinLimits l ≡ true
@@ -29,13 +29,13 @@ module _ (p v : ℕ) (b : Board) where
   of-banks (OfAudio r) e t h = absurd (subst (λ (z : ℕ). T (eqb z 1)) e t)
   of-banks (OfIrq r) e t h = absurd (subst (λ (z : ℕ). T (eqb z 1)) e t)
 
-  pub of-audio : (d : Register) → p ≡ partOf d → T (eqb p 2) → withEngine b (b .irq) (audioAfter d v (b .audio)) ≡ registerWritten d v b
+  pub of-audio : (d : Register) → p ≡ partOf d → T (eqb p 2) → soundAfter d v b ≡ registerWritten d v b
   of-audio Nothing e t = absurd (subst (λ (z : ℕ). T (eqb z 2)) e t)
   of-audio (OfBank r) e t = absurd (subst (λ (z : ℕ). T (eqb z 2)) e t)
   of-audio (OfAudio r) e t = refl
   of-audio (OfIrq r) e t = absurd (subst (λ (z : ℕ). T (eqb z 2)) e t)
 
-  pub of-irq : (d : Register) → p ≡ partOf d → T (eqb p 3) → withEngine b (irqAfter d v (b .irq)) (b .audio) ≡ registerWritten d v b
+  pub of-irq : (d : Register) → p ≡ partOf d → T (eqb p 3) → lineAfter d v b ≡ registerWritten d v b
   of-irq Nothing e t = absurd (subst (λ (z : ℕ). T (eqb z 3)) e t)
   of-irq (OfBank r) e t = absurd (subst (λ (z : ℕ). T (eqb z 3)) e t)
   of-irq (OfAudio r) e t = absurd (subst (λ (z : ℕ). T (eqb z 3)) e t)

@@ -17,7 +17,7 @@ use Rattle.decode.specs.declared.Register.the-variants.{Nothing, OfBank, OfAudi
 use Rattle.banks.specs.declared.banking.Banking.{Banking}
 use Rattle.banks.specs.Banking.{bankingInRange, bankWritten}
 use Rattle.vrc6.specs.declared.board.Board.{Board}
-use Rattle.vrc6.specs.Boards.{paged}
+use Rattle.vrc6.specs.Boards.{paged, withEngine}
 use Rattle.vrc6.specs.Checks.{engineOk}
 use Rattle.vrc6.specs.Calls.{irqWritten}
 
@@ -62,3 +62,10 @@ irqAfter Nothing byte q = q
 irqAfter (OfBank _) byte q = q
 irqAfter (OfAudio _) byte q = q
 irqAfter (OfIrq r) byte q = irqWritten r byte q
+
+-- the board after its sound, or its interrupt, took a byte
+abbrev pub soundAfter : Register → (byte : ℕ) → Board → Board
+soundAfter r byte b = withEngine b (b .irq) (audioAfter r byte (b .audio))
+
+abbrev pub lineAfter : Register → (byte : ℕ) → Board → Board
+lineAfter r byte b = withEngine b (irqAfter r byte (b .irq)) (b .audio)

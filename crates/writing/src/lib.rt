@@ -14,7 +14,7 @@ use vrc6::writes::write_irq;
 ghost use mathlib.Core.Path.{_≡_};
 ghost use lib.ListN.{length};
 ghost use Rattle.decode.specs.Decode.{decode};
-ghost use Rattle.writing.specs.Writing.{audioAfter, banksAfter, byteLeft, byteRefusal, irqAfter, partOf, valuesInRange};
+ghost use Rattle.writing.specs.Writing.{audioAfter, banksAfter, byteLeft, byteRefusal, irqAfter, lineAfter, partOf, soundAfter, valuesInRange};
 
 // Whether what a CPU write checks beside its entry is in range.
 fn values_in_range(banking: Banking, irq: VrcIrq, audio: Audio, addr: u16) -> bool
@@ -83,7 +83,7 @@ pub fn banks_written(board: Board, addr: u16, val: u8) -> Board
 }
 
 // The sound after a write to one of its registers.
-pub fn audio_written(revision: bool, audio: Audio, addr: u16, val: u8) -> Audio
+fn audio_written(revision: bool, audio: Audio, addr: u16, val: u8) -> Audio
     ensures { λ r. ⌜ r ≡ audioAfter (decode revision addr) val audio ⌝ }
 {
     match decode(revision, addr) {
@@ -95,7 +95,7 @@ pub fn audio_written(revision: bool, audio: Audio, addr: u16, val: u8) -> Audio
 }
 
 // The interrupt after a write to one of its registers.
-pub fn irq_written(revision: bool, irq: VrcIrq, addr: u16, val: u8) -> VrcIrq
+fn irq_written(revision: bool, irq: VrcIrq, addr: u16, val: u8) -> VrcIrq
     ensures { λ r. ⌜ r ≡ irqAfter (decode revision addr) val irq ⌝ }
 {
     match decode(revision, addr) {
@@ -104,4 +104,26 @@ pub fn irq_written(revision: bool, irq: VrcIrq, addr: u16, val: u8) -> VrcIrq
         Register::OfAudio(sound) => irq,
         Register::OfIrq(line) => write_irq(irq, line, val),
     }
+}
+
+// The board after a write to a sound register.
+pub fn sound_written(board: Board, addr: u16, val: u8) -> Board
+    ensures { λ r. ⌜ r ≡ soundAfter (decode (board .banking .revision) addr) val board ⌝ }
+{
+    let banking = board.banking;
+    let audio = audio_written(banking.revision, board.audio, addr, val);
+    let mut after = board;
+    after.audio = audio;
+    after
+}
+
+// The board after a write to an interrupt register.
+pub fn line_written(board: Board, addr: u16, val: u8) -> Board
+    ensures { λ r. ⌜ r ≡ lineAfter (decode (board .banking .revision) addr) val board ⌝ }
+{
+    let banking = board.banking;
+    let irq = irq_written(banking.revision, board.irq, addr, val);
+    let mut after = board;
+    after.irq = irq;
+    after
 }

@@ -48,9 +48,11 @@ use Rattle.vrc6.specs.declared.steady.Steady.{Steady}
 use Rattle.vrc6.specs.Calls.{clock}
 use Rattle.vrc6.specs.Parts.{engineClocked, onlyTimers}
 use Rattle.lent.specs.declared.Tick.{Tick}
-use Rattle.lent.specs.Lent.{tickOf, tickNumber, tickTold, steadyClocked}
+use Rattle.told.specs.Told.{clockNumbered, steadyClocked}
+use Rattle.lent.specs.Lent.{tickOf, tickTold}
 use Rattle.lent.proofs.Answers.{steady as is-steady, by-number}
-use Rattle.lent.proofs.Parts.{tyAt, after, arms, vB, vI, vS, vY, vK, irq-of, audio-of, held}
+use Rattle.lent.proofs.Held.{vB, vI, vS, irq-of, audio-of}
+use Rattle.lent.proofs.Parts.{tyAt, after, arms, vY, vK, held}
 use Rattle.vrc6.proofs.board.Board as B
 use Rattle.vrc6.proofs.board.Board.Laws as B′
 use Rattle.vrc_irq.proofs.VrcIrq as I
@@ -210,8 +212,8 @@ module _ {M : Type 1} (𝓤 : URA M) (H : Heap 𝓤) (A : Atoms 𝓤) (W : Given
             calls-at ! fm (Number 𝓤 H A at-mem run) known-number to-number (and-then ! (load ! (from ! (stop !)) (look ! 1 refl)) (no-more !)) (λ w.
             use1 W (later (some (λ (r : ℕ). ((‵ (flft κ q) ⊛ ‵ ftrue) ⊛ ‵ (u8 .own r (w ∷ []))) ⊛ raw (ensured 𝓤 H A number.ended (number.clauses 𝓤 H A at-mem run) (κ, tt) x tt r)))) (id⊢ 𝓤 _) $ await ! tt $ pick ! (λ r.
             -- what `lent_clock_number` ensures, at some last board
-            split ! $ move ! (1 ∷ []) $ use1 W (some (λ (zs : Board × Unit {0}). ‵ (lasts number.ended (κ, tt) x zs) ⊛ raw (fact 𝓤 ((zs .0 ≡ clock h .board) × (r ≡ tickNumber (clock h)))))) (id⊢ 𝓤 _) $ pick ! (λ zs.
-            split ! $ move ! (1 ∷ []) $ heard ! ((zs .0 ≡ clock h .board) × (r ≡ tickNumber (clock h))) (λ e. fsplit ! $ move ! (2 ∷ []) $ split ! $ move ! (1 ∷ []) $
+            split ! $ move ! (1 ∷ []) $ use1 W (some (λ (zs : Board × Unit {0}). ‵ (lasts number.ended (κ, tt) x zs) ⊛ raw (fact 𝓤 ((zs .0 ≡ clock h .board) × (r ≡ clockNumbered h .number))))) (id⊢ 𝓤 _) $ pick ! (λ zs.
+            split ! $ move ! (1 ∷ []) $ heard ! ((zs .0 ≡ clock h .board) × (r ≡ clockNumbered h .number)) (λ e. fsplit ! $ move ! (2 ∷ []) $ split ! $ move ! (1 ∷ []) $
             peeks ! u8 (Is u8) (shows 𝓤 H A u8) r (w ∷ []) (λ isr. drop ! $
             land ! (from ! (stop !)) (init ! 9 refl (uint-lawful 𝓤 H A W w8 .typed r _ isr .0)) $ rewrite ! 9 (λ (y : Val). ‵ (fat fullShare (tyInt w8) l₅ 0 y)) (ap only (uint-tells w8 r _ isr)) refl $
             use0 W (raw (Told 𝓤 H A at-mem run .pre (to-told r))) (goes-told r (refl, isr .1)) $
