@@ -183,7 +183,7 @@ uint8_t lent_create(Vrc6Board *board, Vrc6MemoryLayout layout, uint8_t mirroring
  * Refused by VRC6_VALUES (interrupt and sound). */
 Vrc6Tick lent_clock(Vrc6Board *board);
 
-/* The same clock, answered by one number: twice the refusal's number, or 1 for a tick, or 0. */
+/* The same clock, answered by one number: 1 for a tick, 6 for a refusal (by 3), otherwise 0. */
 uint8_t lent_clock_number(Vrc6Board *board);
 
 /* The byte that a CPU address shows. Board and buffers are left as they were.

@@ -1,7 +1,7 @@
 // The board's calls for a host that keeps one board: it lends the board, and finds it advanced.
 //
-// Every call is total and refuses by number, and leaves board and buffers as they were where it refuses. A board and
-// its buffers cross as references, an answer as a number or a small struct.
+// Every call is total and refuses by number. Refused, it leaves board and buffers as they were; only create leaves the
+// zero board. Board and buffers cross as references, an answer as a number or a small struct.
 use layout::MemoryLayout;
 use memory::Peeked;
 use memory::peek;
@@ -238,7 +238,7 @@ pub extern "C" fn lent_clock(board: &mut Board) -> Tick
     }
 }
 
-// The same clock without the quick way, answering by one number: twice the refusal's, or 1 for a tick.
+// The same clock without the quick way, answering by one number: 1 for a tick, 6 for a refusal by 3, otherwise 0.
 #[no_mangle]
 pub extern "C" fn lent_clock_number(board: &mut Board) -> u8
     ensures { λ r. ⌜ (now (board .exit) ≡ clock (now (board .entry)) .board) × (r ≡ clockNumbered (now (board .entry)) .number) ⌝ }

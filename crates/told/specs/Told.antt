@@ -1,8 +1,8 @@
 -- What the lent forms answer beside the board that they advance (01, "The board's calls"). Assumes nothing.
 use mathlib.Core.Bool.{Bool, true, false, cond, _&&_}
 use mathlib.Core.List.{List, [], _∷_, _++_}
-use Prim.Native.Nat.{ℕ, zero, suc, _-_, _*_}
-use lib.Dec.{leb}
+use Prim.Native.Nat.{ℕ, zero, suc, _-_}
+use lib.Dec.{eqb, leb}
 use lib.Ieee.{binary32, ofBits}
 use lib.ListN.{length, take}
 use Rattle.basics.specs.Refusals.{firstFailing, unless}
@@ -93,9 +93,9 @@ pageAt x address =
     }
 
 -- ---- clock
--- a clock's answer as one number: 1 for a tick, otherwise twice the refusal's number
+-- a clock's answer as one number: 1 for a tick, 6 for a refusal, which is by 3, otherwise 0
 abbrev pub tickNumber : (ticked : Bool) → (refusal : ℕ) → ℕ
-tickNumber ticked refusal = cond ticked 1 (refusal * 2)
+tickNumber ticked refusal = cond ticked 1 (cond (eqb refusal 0) 0 6)
 
 -- a clock, its answer as that number
 abbrev pub clockNumbered : Board → Numbered

@@ -12,7 +12,6 @@ use vrc6::board::ResetKind;
 use vrc6::board::Written;
 use vrc6::steady::Steady;
 ghost use mathlib.Core.Path.{_≡_};
-ghost use Prim.Native.Nat.{_≤_};
 ghost use Rattle.vrc6.specs.Boards.{heldBy};
 ghost use Rattle.vrc6.specs.Calls.{forecast, level, reset};
 ghost use Rattle.told.specs.Told.{clockNumbered, createdBy, forecastTold, levelTold, mirroringOf, numbersNamed, pageAt, revisionOf, steadyClocked, tickNumber};
@@ -206,15 +205,17 @@ pub struct Numbered {
     pub number: u8,
 }
 
-// 1 for a tick, otherwise twice the refusal's number.
+// 1 for a tick, 6 for a refusal, which is by 3, otherwise 0.
 fn tick_number(ticked: bool, refusal: u8) -> u8
-    requires { ⌜ refusal ≤ 3 ⌝ }
     ensures { λ r. ⌜ r ≡ tickNumber ticked refusal ⌝ }
 {
     if ticked {
         return 1;
     }
-    refusal * 2
+    if refusal == 0 {
+        return 0;
+    }
+    6
 }
 
 pub fn clock_numbered(b: Board) -> Numbered

@@ -54,7 +54,7 @@ pub fn clock(board: &mut Board) -> Tick {
     unsafe { lent_clock(board) }
 }
 
-/// The same clock: twice the refusal's number, or 1 for a tick.
+/// The same clock: 1 for a tick, 6 for a refusal (by 3), otherwise 0.
 pub fn clock_number(board: &mut Board) -> u8 {
     // SAFETY: one live board.
     unsafe { lent_clock_number(board) }

@@ -1,27 +1,16 @@
 -- `clock_numbered` meets its contract. Assumes nothing.
-use mathlib.Core.Path.{_≡_, sym, ap, subst, _∙_}
-use mathlib.Core.Bool.{Bool, true, false}
-use mathlib.Core.List.{[], _∷_}
-use Prim.Native.Nat.{_≤_}
-use native.Mathlib.Omega.{arith}
-use Rattle.basics.specs.Refusals.{firstFailing}
+use mathlib.Core.Path.{ap, _∙_}
 use Rattle.vrc6.specs.declared.board.Clocked.{Clocked}
-use Rattle.vrc6.specs.Checks.{engineOk}
 use Rattle.told.specs.Told.{tickNumber}
 use borrow.Author.Needs.{needs}
 use Rattle.told.proofs.clock_numbered.Statement.{statement}
 use Rattle.told.proofs.clock_numbered.Tie as tie
 
--- a clock is refused by 3 or not at all
-small : (t : Bool) → firstFailing ((t, 3) ∷ []) ≤ 3
-small true = omega arith
-small false = omega arith
-
 clock-requires : tie.Need-clock-requires
 clock-requires c κs = search needs
 
 tick-number-requires : tie.Need-tick-number-requires
-tick-number-requires c κs = subst (λ (r : Clocked). r .refusal ≤ 3) (sym (c .before .clock .ensures)) (small (engineOk (c .before .before .args .b .irq) (c .before .before .args .b .audio)))
+tick-number-requires c κs = search needs
 
 returns : tie.Need-returns
 returns c =

@@ -1,4 +1,5 @@
 -- `tick_number` meets its contract. Assumes nothing.
+use borrow.Author.Tests.{eq-eqb, ne-eqb}
 use borrow.Author.Needs.{needs}
 use Rattle.told.proofs.tick_number.Statement.{statement}
 use Rattle.told.proofs.tick_number.Tie as tie
@@ -6,11 +7,11 @@ use Rattle.told.proofs.tick_number.Tie as tie
 returns : tie.Need-returns
 returns c = search needs
 
-mul-result : tie.Need-mul-result
-mul-result c = search needs
-
 returns-2 : tie.Need-returns-2
-returns-2 c = rw (c .if1 .left)
+returns-2 c = rw (c .before .if1 .left, eq-eqb _ _ (c .if2 .taken))
+
+returns-3 : tie.Need-returns-3
+returns-3 c = rw (c .before .if1 .left, ne-eqb _ _ (c .if2 .left))
 
 pub tick-number-spec : {M : Type 1} → statement M
-tick-number-spec = tie.close (tie.spec returns mul-result returns-2)
+tick-number-spec = tie.close (tie.spec returns returns-2 returns-3)
