@@ -9,12 +9,12 @@ use Rattle.audio.specs.declared.Audio.{Audio}
 use Rattle.audio.specs.Sound.{audioClocked}
 use Rattle.vrc6.specs.declared.board.Board.{Board}
 use Rattle.vrc6.specs.declared.board.Clocked.{Clocked}
-use Rattle.vrc6.specs.declared.steady.Steady.{Steady}
+use Rattle.engine.specs.declared.steady.Steady.{Steady}
 use Rattle.vrc6.specs.Boards.{withEngine}
 use Rattle.vrc6.specs.Calls.{clock, clocked}
-use Rattle.vrc6.specs.Checks.{engineOk}
-use Rattle.vrc6.specs.Parts.{engineClocked, onlyTimers}
-use Rattle.vrc6.proofs.Engines.{by-three, rejoined, clock-joined}
+use Rattle.engine.specs.Engine.{engineOk, engineClocked, onlyTimers}
+use Rattle.engine.proofs.Engines.{by-three}
+use Rattle.vrc6.proofs.Engines.{rejoined, clock-joined}
 use Rattle.told.specs.Told.{tickNumber, clockNumbered, steadyClocked}
 use Rattle.lent.specs.Lent.{tickOf, tickTold}
 

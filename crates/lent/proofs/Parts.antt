@@ -7,10 +7,10 @@ use lib.Dec.{T}
 use mir.Syntax.{Ty, tyUnit, Local, local, Body, skip, seq, assign, block, loop, cond, switch, exit, return, call}
 use mir.Val.{Val}
 use denote.Struct.Laws as LL
-use Rattle.vrc6.specs.declared.steady.Steady.{Steady}
+use Rattle.engine.specs.declared.steady.Steady.{Steady}
 use Rattle.lent.specs.declared.Tick.{Tick}
-use Rattle.vrc6.proofs.steady.Steady as Y
-use Rattle.vrc6.proofs.steady.Steady.Laws as Y′
+use Rattle.engine.proofs.steady.Steady as Y
+use Rattle.engine.proofs.steady.Steady.Laws as Y′
 use Rattle.lent.proofs.Tick as K
 use Rattle.lent.proofs.Tick.Laws as K′
 

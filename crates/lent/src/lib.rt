@@ -2,6 +2,8 @@
 //
 // Every call is total and refuses by number. Refused, it leaves board and buffers as they were; only create leaves the
 // zero board. Board and buffers cross as references, an answer as a number or a small struct.
+use engine::steady::Steady;
+use engine::steady::steady_timers;
 use layout::MemoryLayout;
 use memory::Peeked;
 use memory::peek;
@@ -16,8 +18,6 @@ use told::page_at;
 use told::reset_board;
 use told::steady_clock;
 use vrc6::Board;
-use vrc6::steady::Steady;
-use vrc6::steady::steady_timers;
 use writing::banks_written;
 use writing::line_written;
 use writing::reached;

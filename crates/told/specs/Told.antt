@@ -21,7 +21,7 @@ use Rattle.audio.specs.Sound.{withTimers}
 use Rattle.vrc6.specs.declared.board.Board.{Board}
 use Rattle.vrc6.specs.declared.board.Clocked.{Clocked}
 use Rattle.vrc6.specs.declared.board.Created.{Created}
-use Rattle.vrc6.specs.declared.steady.Steady.{Steady}
+use Rattle.engine.specs.declared.steady.Steady.{Steady}
 use Rattle.vrc6.specs.declared.board.Forecast.{Forecast}
 use Rattle.vrc6.specs.declared.board.Forecast.the-variants.{None, In, Refused}
 use Rattle.vrc6.specs.Boards.{State, entryOf, withEngine, zeroBoard}

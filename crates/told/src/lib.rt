@@ -2,6 +2,7 @@
 use audio::Level;
 use banks::banking::Mirroring;
 use banks::banking::Revision;
+use engine::steady::Steady;
 use layout::MemoryLayout;
 use paging::chr_table::chr_lookup;
 use vrc6::Board;
@@ -10,7 +11,6 @@ use vrc6::board::Created;
 use vrc6::board::Forecast;
 use vrc6::board::ResetKind;
 use vrc6::board::Written;
-use vrc6::steady::Steady;
 ghost use mathlib.Core.Path.{_≡_};
 ghost use Rattle.vrc6.specs.Boards.{heldBy};
 ghost use Rattle.vrc6.specs.Calls.{forecast, level, reset};

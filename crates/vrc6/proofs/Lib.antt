@@ -1,5 +1,4 @@
 pub mod Creations
 pub mod Engines
-pub mod Timed
 pub mod Stores
 pub mod Zeros

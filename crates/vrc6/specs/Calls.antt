@@ -8,18 +8,16 @@ use Rattle.paging.specs.Paging.{Side, cpu, picture}
 use Rattle.memory.specs.Access.{peeked, stored, written, viewed}
 use Rattle.decode.specs.declared.Register.{Register}
 use Rattle.decode.specs.declared.Register.the-variants.{Nothing, OfBank, OfAudio, OfIrq}
-use Rattle.decode.specs.declared.IrqRegister.{IrqRegister}
-use Rattle.decode.specs.declared.IrqRegister.the-variants.{Reload, Control, Acknowledge}
 use Rattle.decode.specs.Decode.{decode}
 use Rattle.banks.specs.Banking.{bankWritten}
-use Rattle.vrc_irq.specs.declared.VrcIrq.{VrcIrq}
 use Rattle.vrc_irq.specs.declared.IrqForecast.{IrqForecast}
 use Rattle.vrc_irq.specs.declared.IrqForecast.the-variants.{None as NoClocks, In as InClocks}
-use Rattle.vrc_irq.specs.Interrupt.{irqReload, irqAcknowledged, irqZero}
-use Rattle.vrc_irq.specs.Board.{clockAnswer, controlWritten, forecastAnswer}
+use Rattle.vrc_irq.specs.Interrupt.{irqZero}
+use Rattle.vrc_irq.specs.Board.{clockAnswer, forecastAnswer}
 use Rattle.audio.specs.declared.Level.the-variants.{Refused as NoLevel}
 use Rattle.audio.specs.Sound.{audioWritten, audioClocked, audioReset}
 use Rattle.audio.specs.Levels.{levelOf}
+use Rattle.engine.specs.Writes.{irqWritten}
 use Rattle.vrc6.specs.declared.board.Board.{Board}
 use Rattle.vrc6.specs.declared.board.Created.{Created}
 use Rattle.vrc6.specs.declared.board.ByteRead.{ByteRead}
@@ -49,12 +47,6 @@ byteRead s x address =
     record { board = x .board; byte = got .byte; refusal = got .refusal }
 
 -- ---- writes
--- an interrupt register takes a byte (VRC IRQ)
-abbrev pub irqWritten : IrqRegister → (v : ℕ) → VrcIrq → VrcIrq
-irqWritten Reload v q = irqReload v q
-irqWritten Control v q = controlWritten v q
-irqWritten Acknowledge v q = irqAcknowledged q
-
 -- a register takes a byte; after a bank write all entries are rebuilt (01, Banks and decode)
 abbrev pub registerWritten : Register → (v : ℕ) → Board → Board
 registerWritten Nothing v b = b

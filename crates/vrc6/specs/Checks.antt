@@ -10,10 +10,7 @@ use Rattle.layout.specs.Layout.{layoutChecks}
 use Rattle.paging.specs.Paging.{Side, cpu}
 use Rattle.memory.specs.Access.{accessRefusal}
 use Rattle.banks.specs.Banking.{bankingInRange}
-use Rattle.vrc_irq.specs.declared.VrcIrq.{VrcIrq}
-use Rattle.vrc_irq.specs.Board.{inRange}
-use Rattle.audio.specs.declared.Audio.{Audio}
-use Rattle.audio.specs.InRange.{audioInRange}
+use Rattle.engine.specs.Engine.{engineOk, engineNumber}
 use Rattle.vrc6.specs.declared.board.Board.{Board}
 use Rattle.vrc6.specs.Boards.{State, Creation, entryOf}
 
@@ -31,15 +28,7 @@ creationRefusal l fixed changing =
 abbrev pub createRefusal : Creation → ℕ
 createRefusal c = creationRefusal (c .layout) (c .fixed) (c .changing)
 
--- interrupt and sound values are in range
-abbrev pub engineOk : VrcIrq → Audio → Bool
-engineOk q a = inRange q && audioInRange a
-
--- the refusal of a call that checks interrupt and sound only
-abbrev pub engineNumber : VrcIrq → Audio → ℕ
-engineNumber q a = firstFailing ((engineOk q a, 3) ∷ [])
-
--- those of a board
+-- interrupt and sound values of a board are in range
 abbrev pub engineInRange : Board → Bool
 engineInRange b = engineOk (b .irq) (b .audio)
 

@@ -1,34 +1,22 @@
 // The calls that store a byte: CPU write, which then reaches a register, and picture write.
 use crate::board::Board;
 use crate::board::Written;
-use crate::engine::engine_in_range;
 use decode::BankRegister;
-use decode::IrqRegister;
 use decode::Register;
 use decode::decode;
+use engine::engine_in_range;
+use engine::writes::write_irq;
 use memory::access_refusal;
 use memory::store;
 use memory::write;
 use tables::chr_pages;
 use tables::prg_pages;
-use vrc_irq::VrcIrq;
 ghost use mathlib.Core.Path.{_≡_};
 ghost use Rattle.layout.specs.Inner.{Limits};
 ghost use Rattle.banks.specs.Banking.{bankWritten};
 ghost use Rattle.vrc6.specs.Boards.{heldBy, paged};
 ghost use Rattle.vrc6.specs.Checks.{registerChecks};
-ghost use Rattle.vrc6.specs.Calls.{cpuWrite, cpuWriteLeft, irqWritten, pictureWrite, pictureWriteLeft, writtenAt};
-
-// An interrupt register takes a byte.
-pub fn write_irq(irq: VrcIrq, register: IrqRegister, val: u8) -> VrcIrq
-    ensures { λ r. ⌜ r ≡ irqWritten register val irq ⌝ }
-{
-    match register {
-        IrqRegister::Reload => irq.write_reload(val),
-        IrqRegister::Control => irq.write_control(val),
-        IrqRegister::Acknowledge => irq.acknowledge(),
-    }
-}
+ghost use Rattle.vrc6.specs.Calls.{cpuWrite, cpuWriteLeft, pictureWrite, pictureWriteLeft, writtenAt};
 
 impl Board {
     // A bank register takes a byte, and every entry is rebuilt from the banking values.

@@ -11,15 +11,14 @@ use Rattle.layout.specs.Layout.{withinLimits}
 use Rattle.memory.specs.Access.{accessRefusal, stored}
 use Rattle.vrc_irq.specs.declared.VrcIrq.{VrcIrq}
 use Rattle.audio.specs.declared.Audio.{Audio}
-use Rattle.audio.specs.Sound.{audioWritten}
 use Rattle.decode.specs.declared.Register.{Register}
 use Rattle.decode.specs.declared.Register.the-variants.{Nothing, OfBank, OfAudio, OfIrq}
 use Rattle.banks.specs.declared.banking.Banking.{Banking}
 use Rattle.banks.specs.Banking.{bankingInRange, bankWritten}
+use Rattle.engine.specs.Engine.{engineOk}
+use Rattle.engine.specs.Writes.{audioAfter, irqAfter}
 use Rattle.vrc6.specs.declared.board.Board.{Board}
 use Rattle.vrc6.specs.Boards.{paged, withEngine}
-use Rattle.vrc6.specs.Checks.{engineOk}
-use Rattle.vrc6.specs.Calls.{irqWritten}
 
 -- what a CPU write from $8000 up checks beside its entry (vrc6's `registerChecks`)
 abbrev pub valuesInRange : Banking → VrcIrq → Audio → (address : ℕ) → Bool
@@ -48,20 +47,6 @@ banksAfter (OfBank r) byte b =
     cond (withinLimits (b .layout)) (paged (b .layout) (bankWritten r byte (b .banking)) (b .irq) (b .audio)) b
 banksAfter (OfAudio _) byte b = b
 banksAfter (OfIrq _) byte b = b
-
--- the sound after its register took a byte
-abbrev pub audioAfter : Register → (byte : ℕ) → Audio → Audio
-audioAfter Nothing byte a = a
-audioAfter (OfBank _) byte a = a
-audioAfter (OfAudio r) byte a = audioWritten r byte a
-audioAfter (OfIrq _) byte a = a
-
--- the interrupt after its register took a byte
-abbrev pub irqAfter : Register → (byte : ℕ) → VrcIrq → VrcIrq
-irqAfter Nothing byte q = q
-irqAfter (OfBank _) byte q = q
-irqAfter (OfAudio _) byte q = q
-irqAfter (OfIrq r) byte q = irqWritten r byte q
 
 -- the board after its sound, or its interrupt, took a byte
 abbrev pub soundAfter : Register → (byte : ℕ) → Board → Board

@@ -3,18 +3,19 @@ use audio::Audio;
 use banks::banking::Banking;
 use decode::Register;
 use decode::decode;
+use engine::engine_in_range;
+use engine::writes::audio_written;
+use engine::writes::irq_written;
 use layout::MemoryLayout;
 use layout::Page;
 use memory::access_refusal;
 use memory::store;
 use vrc_irq::VrcIrq;
 use vrc6::Board;
-use vrc6::engine::engine_in_range;
-use vrc6::writes::write_irq;
 ghost use mathlib.Core.Path.{_≡_};
 ghost use lib.ListN.{length};
 ghost use Rattle.decode.specs.Decode.{decode};
-ghost use Rattle.writing.specs.Writing.{audioAfter, banksAfter, byteLeft, byteRefusal, irqAfter, lineAfter, partOf, soundAfter, valuesInRange};
+ghost use Rattle.writing.specs.Writing.{banksAfter, byteLeft, byteRefusal, lineAfter, partOf, soundAfter, valuesInRange};
 
 // Whether what a CPU write checks beside its entry is in range.
 fn values_in_range(banking: Banking, irq: VrcIrq, audio: Audio, addr: u16) -> bool
@@ -80,30 +81,6 @@ pub fn banks_written(board: Board, addr: u16, val: u8) -> Board
         };
     }
     board
-}
-
-// The sound after a write to one of its registers.
-fn audio_written(revision: bool, audio: Audio, addr: u16, val: u8) -> Audio
-    ensures { λ r. ⌜ r ≡ audioAfter (decode revision addr) val audio ⌝ }
-{
-    match decode(revision, addr) {
-        Register::Nothing => audio,
-        Register::OfBank(bank) => audio,
-        Register::OfAudio(sound) => audio.write_register(sound, val),
-        Register::OfIrq(line) => audio,
-    }
-}
-
-// The interrupt after a write to one of its registers.
-fn irq_written(revision: bool, irq: VrcIrq, addr: u16, val: u8) -> VrcIrq
-    ensures { λ r. ⌜ r ≡ irqAfter (decode revision addr) val irq ⌝ }
-{
-    match decode(revision, addr) {
-        Register::Nothing => irq,
-        Register::OfBank(bank) => irq,
-        Register::OfAudio(sound) => irq,
-        Register::OfIrq(line) => write_irq(irq, line, val),
-    }
 }
 
 // The board after a write to a sound register.

@@ -41,7 +41,7 @@ use Rattle.told.specs.Told.{steadyClocked}
 use Rattle.lent.specs.Lent.{tickOf}
 use Rattle.vrc6.specs.declared.board.Board.{Board}
 use Rattle.vrc6.specs.declared.board.Clocked.{Clocked}
-use Rattle.vrc6.specs.declared.steady.Steady.{Steady}
+use Rattle.engine.specs.declared.steady.Steady.{Steady}
 use Rattle.lent.specs.declared.Tick.{Tick}
 use Rattle.vrc6.proofs.board.Board as B
 use Rattle.vrc6.proofs.board.Board.Laws as B′
@@ -49,8 +49,8 @@ use Rattle.vrc6.proofs.board.Clocked as T
 use Rattle.vrc6.proofs.board.Clocked.Laws as T′
 use Rattle.lent.proofs.Tick as K
 use Rattle.lent.proofs.Tick.Laws as K′
-use Rattle.vrc6.proofs.steady.Steady as Y
-use Rattle.vrc6.proofs.steady.Steady.Laws as Y′
+use Rattle.engine.proofs.steady.Steady as Y
+use Rattle.engine.proofs.steady.Steady.Laws as Y′
 use Rattle.told.proofs.steady_clock as clock
 use Rattle.told.proofs.steady_clock.Symbol as clock-def
 use Rattle.told.proofs.steady_clock.Symbol.{name as #clock}

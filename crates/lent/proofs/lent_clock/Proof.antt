@@ -44,9 +44,9 @@ use Rattle.vrc_irq.specs.declared.VrcIrq.{VrcIrq}
 use Rattle.audio.specs.declared.Audio.{Audio}
 use Rattle.vrc6.specs.declared.board.Board.{Board}
 use Rattle.vrc6.specs.declared.board.Clocked.{Clocked}
-use Rattle.vrc6.specs.declared.steady.Steady.{Steady}
+use Rattle.engine.specs.declared.steady.Steady.{Steady}
 use Rattle.vrc6.specs.Calls.{clock}
-use Rattle.vrc6.specs.Parts.{engineClocked, onlyTimers}
+use Rattle.engine.specs.Engine.{engineClocked, onlyTimers}
 use Rattle.lent.specs.declared.Tick.{Tick}
 use Rattle.told.specs.Told.{clockNumbered, steadyClocked}
 use Rattle.lent.specs.Lent.{tickOf, tickTold}
@@ -59,14 +59,14 @@ use Rattle.vrc_irq.proofs.VrcIrq as I
 use Rattle.vrc_irq.proofs.VrcIrq.Laws as I′
 use Rattle.audio.proofs.Audio as S
 use Rattle.audio.proofs.Audio.Laws as S′
-use Rattle.vrc6.proofs.steady.Steady as Y
-use Rattle.vrc6.proofs.steady.Steady.Laws as Y′
+use Rattle.engine.proofs.steady.Steady as Y
+use Rattle.engine.proofs.steady.Steady.Laws as Y′
 use Rattle.lent.proofs.Tick as K
 use Rattle.lent.proofs.Tick.Laws as K′
-use Rattle.vrc6.proofs.steady.steady_timers as quick
-use Rattle.vrc6.proofs.steady.steady_timers.Symbol as quick-def
-use Rattle.vrc6.proofs.steady.steady_timers.Symbol.{name as #quick}
-use Rattle.vrc6.proofs.steady.steady_timers.Met as quick-thm
+use Rattle.engine.proofs.steady.steady_timers as quick
+use Rattle.engine.proofs.steady.steady_timers.Symbol as quick-def
+use Rattle.engine.proofs.steady.steady_timers.Symbol.{name as #quick}
+use Rattle.engine.proofs.steady.steady_timers.Met as quick-thm
 use Rattle.lent.proofs.clock_steady as steadily
 use Rattle.lent.proofs.clock_steady.Symbol as steadily-def
 use Rattle.lent.proofs.clock_steady.Symbol.{name as #steadily}
@@ -271,7 +271,7 @@ lent-clock-spec 𝓤 H 𝓜 𝓖 𝓡 =
     entered 𝓤 H (tripleOf 𝓤 H (𝓖 .A) lent.signature (lent.spec 𝓤 H (𝓖 .A) (𝓜 .mem) (𝓡 .run)))
     (tables 𝓤 H 𝓜 𝓡 code.env .C) (tables 𝓤 H 𝓜 𝓡 code.env .Λ) #clock-lent code.function (code.unfolded 𝓤 H 𝓜 𝓡)
     (lent-meets 𝓤 H (𝓖 .A) (givenOf 𝓤 H 𝓜 𝓖) (𝓜 .mem) (𝓡 .run) (tablesOf 𝓤 H 𝓜 (tables 𝓤 H 𝓜 𝓡 code.env))
-    (cited 𝓤 H (Quick 𝓤 H (𝓖 .A) (𝓜 .mem) (𝓡 .run)) 𝓜 𝓡 code.env #quick quick-def.routine code.calls-vrc6·steady·steady-timers (quick-thm.met 𝓤 H 𝓜 𝓖 𝓡))
+    (cited 𝓤 H (Quick 𝓤 H (𝓖 .A) (𝓜 .mem) (𝓡 .run)) 𝓜 𝓡 code.env #quick quick-def.routine code.calls-engine·steady·steady-timers (quick-thm.met 𝓤 H 𝓜 𝓖 𝓡))
     (cited 𝓤 H (Steadily 𝓤 H (𝓖 .A) (𝓜 .mem) (𝓡 .run)) 𝓜 𝓡 code.env #steadily steadily-def.routine code.calls-lent·clock-steady (steadily-thm.met 𝓤 H 𝓜 𝓖 𝓡))
     (cited 𝓤 H (Number 𝓤 H (𝓖 .A) (𝓜 .mem) (𝓡 .run)) 𝓜 𝓡 code.env #number number-def.routine code.calls-lent·lent-clock-number (number-thm.met 𝓤 H 𝓜 𝓖 𝓡))
     (cited 𝓤 H (Told 𝓤 H (𝓖 .A) (𝓜 .mem) (𝓡 .run)) 𝓜 𝓡 code.env #told told-def.routine code.calls-lent·told (told-thm.met 𝓤 H 𝓜 𝓖 𝓡)))

@@ -1,0 +1,2 @@
+pub mod Engine
+pub mod Writes
