@@ -32,7 +32,7 @@ use Rattle.vrc6.proofs.Stores.{cpu-refused, cpu-done}
 use Rattle.vrc6.proofs.board.Board as B
 use Rattle.vrc6.proofs.board.Board.Laws as B′
 use Rattle.writing.specs.Writing.{partOf, banksAfter, soundAfter, lineAfter}
-use Rattle.writing.proofs.Targets.{limited}
+use Rattle.vrc6.proofs.Stores.{limited}
 use Rattle.writing.proofs.write_byte as byte
 use Rattle.writing.proofs.reached as reached
 use Rattle.writing.proofs.banks_written as banks

@@ -1,19 +1,35 @@
 -- The answers of the writes, from their refusal number. Assumes nothing.
 use mathlib.Core.Path.{_≡_, refl, sym, ap, ap₂, _∙_}
-use mathlib.Core.Bool.{Bool, true, false}
+use mathlib.Core.Bool.{Bool, true, false, cond, _&&_}
 use mathlib.Core.List.{List}
 use Prim.Native.Nat.{ℕ, zero, suc}
+use native.Mathlib.Omega.{arith}
 use lib.ListN.{length}
 use Rattle.basics.specs.Refusals.{unless}
 use Rattle.basics.proofs.Tests.{unless-refused, unless-done}
 use Rattle.layout.specs.declared.page.Page.{Page}
+use Rattle.layout.specs.declared.regions.MemoryLayout.{MemoryLayout}
+use Rattle.layout.specs.Layout.{withinLimits, lengthsFit}
+use Rattle.layout.specs.Entries.{entryInRange}
 use Rattle.paging.specs.Paging.{cpu, picture}
-use Rattle.memory.specs.Access.{plainRefusal, written}
+use Rattle.memory.specs.Access.{accessRefusal, plainRefusal, written}
+use Rattle.memory.proofs.Accepted.{clear}
+use Rattle.decode.specs.declared.BankRegister.{BankRegister}
+use Rattle.banks.specs.Banking.{bankWritten}
 use Rattle.vrc6.specs.declared.board.Board.{Board}
 use Rattle.vrc6.specs.declared.board.Written.{Written}
-use Rattle.vrc6.specs.Boards.{State, entryOf}
+use Rattle.vrc6.specs.Boards.{State, entryOf, paged}
 use Rattle.vrc6.specs.Checks.{memoryRefusal, cpuWriteRefusal}
-use Rattle.vrc6.specs.Calls.{storedAt, writtenAt, pictureWritten, pictureWriteLeft, pictureWrite, cpuWritten, cpuWriteLeft, cpuWrite}
+use Rattle.vrc6.specs.Calls.{bankTaken, storedAt, writtenAt, pictureWritten, pictureWriteLeft, pictureWrite, cpuWritten, cpuWriteLeft, cpuWrite}
+
+-- a call that is not refused has its layout within the limits
+pub limited : (l : MemoryLayout) (e : Page) (fixed changing : ℕ) (others : Bool) → accessRefusal l e fixed changing others ≡ 0 → withinLimits l ≡ true
+limited l e fixed changing others h = clear (withinLimits l) (lengthsFit l fixed changing) (others && entryInRange l e) 3 (λ z. omega arith) h .0
+
+-- a bank write, by the test of the limits
+pub taken : (r : BankRegister) (v : ℕ) (b : Board) (t : Bool) → withinLimits (b .layout) ≡ t
+    → bankTaken r v b ≡ cond t (paged (b .layout) (bankWritten r v (b .banking)) (b .irq) (b .audio)) b
+taken r v b t h = ap (λ (t : Bool). cond t (paged (b .layout) (bankWritten r v (b .banking)) (b .irq) (b .audio)) b) h
 
 abbrev answer : Board → ℕ → Written
 answer b n = record { board = b; refusal = n }

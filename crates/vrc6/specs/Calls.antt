@@ -1,11 +1,13 @@
 -- The board's calls: what each does, and its whole answer, refused or not (01, "The board's calls"). Assumes nothing.
-use mathlib.Core.Bool.{Bool, true, false}
+use mathlib.Core.Bool.{Bool, true, false, cond}
 use mathlib.Core.List.{List}
 use Prim.Native.Nat.{ℕ}
 use lib.ListN.{length}
 use Rattle.basics.specs.Refusals.{unless}
+use Rattle.layout.specs.Layout.{withinLimits}
 use Rattle.paging.specs.Paging.{Side, cpu, picture}
 use Rattle.memory.specs.Access.{peeked, stored, written, viewed}
+use Rattle.decode.specs.declared.BankRegister.{BankRegister}
 use Rattle.decode.specs.declared.Register.{Register}
 use Rattle.decode.specs.declared.Register.the-variants.{Nothing, OfBank, OfAudio, OfIrq}
 use Rattle.decode.specs.Decode.{decode}
@@ -47,6 +49,10 @@ byteRead s x address =
     record { board = x .board; byte = got .byte; refusal = got .refusal }
 
 -- ---- writes
+-- a bank register takes a byte, and all entries are rebuilt; a layout above the limits leaves the board as it was
+abbrev pub bankTaken : BankRegister → (v : ℕ) → Board → Board
+bankTaken r v b = cond (withinLimits (b .layout)) (paged (b .layout) (bankWritten r v (b .banking)) (b .irq) (b .audio)) b
+
 -- a register takes a byte; after a bank write all entries are rebuilt (01, Banks and decode)
 abbrev pub registerWritten : Register → (v : ℕ) → Board → Board
 registerWritten Nothing v b = b

@@ -12,32 +12,35 @@ use memory::write;
 use tables::chr_pages;
 use tables::prg_pages;
 ghost use mathlib.Core.Path.{_≡_};
-ghost use Rattle.layout.specs.Inner.{Limits};
-ghost use Rattle.banks.specs.Banking.{bankWritten};
-ghost use Rattle.vrc6.specs.Boards.{heldBy, paged};
+ghost use mathlib.Core.Bool.{true};
+ghost use Rattle.layout.specs.Layout.{withinLimits};
+ghost use Rattle.vrc6.specs.Boards.{heldBy};
 ghost use Rattle.vrc6.specs.Checks.{registerChecks};
-ghost use Rattle.vrc6.specs.Calls.{cpuWrite, cpuWriteLeft, pictureWrite, pictureWriteLeft, writtenAt};
+ghost use Rattle.vrc6.specs.Calls.{bankTaken, cpuWrite, cpuWriteLeft, pictureWrite, pictureWriteLeft, writtenAt};
 
 impl Board {
-    // A bank register takes a byte, and every entry is rebuilt from the banking values.
+    // A bank register takes a byte, and every entry is rebuilt from the banking values. A layout above the limits has no
+    // entries: the board stays.
     pub fn write_bank(self, register: BankRegister, val: u8) -> Board
-        requires { ⌜ Limits (self .layout) ⌝ }
-        ensures { λ r. ⌜ r ≡ paged (self .layout) (bankWritten register val (self .banking)) (self .irq) (self .audio) ⌝ }
+        ensures { λ r. ⌜ r ≡ bankTaken register val self ⌝ }
     {
         let layout = self.layout;
-        let banking = self.banking.write_bank(register, val);
-        let prg = prg_pages(layout, banking);
-        let chr = chr_pages(layout, banking);
-        let mut board = self;
-        board.banking = banking;
-        board.prg_pages = prg;
-        board.chr_pages = chr;
-        board
+        if layout.within_limits() {
+            let banking = self.banking.write_bank(register, val);
+            let prg = prg_pages(layout, banking);
+            let chr = chr_pages(layout, banking);
+            let mut board = self;
+            board.banking = banking;
+            board.prg_pages = prg;
+            board.chr_pages = chr;
+            return board;
+        }
+        self
     }
 
     // The register that a CPU write reaches takes its byte.
     fn write_register(mut self, addr: u16, val: u8) -> Board
-        requires { ⌜ Limits (self .layout) ⌝ }
+        requires { ⌜ withinLimits (self .layout) ≡ true ⌝ }
         ensures { λ r. ⌜ r ≡ writtenAt self addr val ⌝ }
     {
         let banking = self.banking;

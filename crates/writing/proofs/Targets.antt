@@ -1,31 +1,20 @@
 -- A CPU write by its part of the board is the CPU write of the whole board: one case for each part. Assumes nothing.
-use mathlib.Core.Path.{_≡_, refl, sym, ap, subst, _∙_}
-use mathlib.Core.Bool.{Bool, true, not, cond, _&&_}
+use mathlib.Core.Path.{_≡_, refl, subst}
+use mathlib.Core.Bool.{true, not}
 use Prim.Native.Nat.{ℕ}
 use lib.Dec.{T, eqb}
-use native.Mathlib.Omega.{arith}
-use Rattle.layout.specs.declared.page.Page.{Page}
-use Rattle.layout.specs.declared.regions.MemoryLayout.{MemoryLayout}
-use Rattle.layout.specs.Layout.{withinLimits, lengthsFit}
-use Rattle.layout.specs.Entries.{entryInRange}
-use Rattle.memory.specs.Access.{accessRefusal}
-use Rattle.memory.proofs.Accepted.{clear}
+use Rattle.layout.specs.Layout.{withinLimits}
 use Rattle.decode.specs.declared.Register.{Register}
 use Rattle.decode.specs.declared.Register.the-variants.{Nothing, OfBank, OfAudio, OfIrq}
-use Rattle.banks.specs.Banking.{bankWritten}
 use Rattle.vrc6.specs.declared.board.Board.{Board}
-use Rattle.vrc6.specs.Boards.{paged}
 use Rattle.vrc6.specs.Calls.{registerWritten}
+use Rattle.vrc6.proofs.Stores.{taken}
 use Rattle.writing.specs.Writing.{partOf, banksAfter, soundAfter, lineAfter}
-
--- a call that is not refused has its layout within the limits
-pub limited : (l : MemoryLayout) (e : Page) (fixed changing : ℕ) (others : Bool) → accessRefusal l e fixed changing others ≡ 0 → withinLimits l ≡ true
-limited l e fixed changing others h = clear (withinLimits l) (lengthsFit l fixed changing) (others && entryInRange l e) 3 (λ z. omega arith) h .0
 
 module _ (p v : ℕ) (b : Board) where
   pub of-banks : (d : Register) → p ≡ partOf d → T (eqb p 1) → withinLimits (b .layout) ≡ true → banksAfter d v b ≡ registerWritten d v b
   of-banks Nothing e t h = absurd (subst (λ (z : ℕ). T (eqb z 1)) e t)
-  of-banks (OfBank r) e t h = ap (λ (z : Bool). cond z (paged (b .layout) (bankWritten r v (b .banking)) (b .irq) (b .audio)) b) h
+  of-banks (OfBank r) e t h = taken r v b true h
   of-banks (OfAudio r) e t h = absurd (subst (λ (z : ℕ). T (eqb z 1)) e t)
   of-banks (OfIrq r) e t h = absurd (subst (λ (z : ℕ). T (eqb z 1)) e t)
 

@@ -1,5 +1,5 @@
 -- A CPU write by the parts of a board that it reads and changes (01, "The board's calls"; vrc6's specs/Calls says it of a whole board). Assumes nothing.
-use mathlib.Core.Bool.{Bool, _&&_, _||_, cond}
+use mathlib.Core.Bool.{Bool, _&&_, _||_}
 use mathlib.Core.List.{List}
 use Prim.Native.Nat.{ℕ}
 use lib.Dec.{ltb}
@@ -7,18 +7,18 @@ use lib.ListN.{length}
 use Rattle.basics.specs.Refusals.{unless}
 use Rattle.layout.specs.declared.page.Page.{Page}
 use Rattle.layout.specs.declared.regions.MemoryLayout.{MemoryLayout}
-use Rattle.layout.specs.Layout.{withinLimits}
 use Rattle.memory.specs.Access.{accessRefusal, stored}
 use Rattle.vrc_irq.specs.declared.VrcIrq.{VrcIrq}
 use Rattle.audio.specs.declared.Audio.{Audio}
 use Rattle.decode.specs.declared.Register.{Register}
 use Rattle.decode.specs.declared.Register.the-variants.{Nothing, OfBank, OfAudio, OfIrq}
 use Rattle.banks.specs.declared.banking.Banking.{Banking}
-use Rattle.banks.specs.Banking.{bankingInRange, bankWritten}
+use Rattle.banks.specs.Banking.{bankingInRange}
 use Rattle.engine.specs.Engine.{engineOk}
 use Rattle.engine.specs.Writes.{audioAfter, irqAfter}
 use Rattle.vrc6.specs.declared.board.Board.{Board}
-use Rattle.vrc6.specs.Boards.{paged, withEngine}
+use Rattle.vrc6.specs.Boards.{withEngine}
+use Rattle.vrc6.specs.Calls.{bankTaken}
 
 -- what a CPU write from $8000 up checks beside its entry (vrc6's `registerChecks`)
 abbrev pub valuesInRange : Banking → VrcIrq → Audio → (address : ℕ) → Bool
@@ -40,11 +40,10 @@ partOf (OfBank _) = 1
 partOf (OfAudio _) = 2
 partOf (OfIrq _) = 3
 
--- the board after its bank register took a byte; a layout above the limits is left alone
+-- the board after its bank register took a byte
 abbrev pub banksAfter : Register → (byte : ℕ) → Board → Board
 banksAfter Nothing byte b = b
-banksAfter (OfBank r) byte b =
-    cond (withinLimits (b .layout)) (paged (b .layout) (bankWritten r byte (b .banking)) (b .irq) (b .audio)) b
+banksAfter (OfBank r) byte b = bankTaken r byte b
 banksAfter (OfAudio _) byte b = b
 banksAfter (OfIrq _) byte b = b
 

@@ -66,21 +66,17 @@ pub fn reached(revision: bool, addr: u16) -> u8
     0
 }
 
-// The board after a bank write, within the layout's limits.
+// The board after a write to a bank register.
 pub fn banks_written(board: Board, addr: u16, val: u8) -> Board
     ensures { λ r. ⌜ r ≡ banksAfter (decode (board .banking .revision) addr) val board ⌝ }
 {
-    let layout = board.layout;
-    if layout.within_limits() {
-        let banking = board.banking;
-        return match decode(banking.revision, addr) {
-            Register::Nothing => board,
-            Register::OfBank(bank) => board.write_bank(bank, val),
-            Register::OfAudio(sound) => board,
-            Register::OfIrq(line) => board,
-        };
+    let banking = board.banking;
+    match decode(banking.revision, addr) {
+        Register::Nothing => board,
+        Register::OfBank(bank) => board.write_bank(bank, val),
+        Register::OfAudio(sound) => board,
+        Register::OfIrq(line) => board,
     }
-    board
 }
 
 // The board after a write to a sound register.

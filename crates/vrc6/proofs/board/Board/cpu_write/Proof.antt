@@ -5,10 +5,10 @@ use denote.Ref.{now}
 use lib.ListN.{length}
 use Rattle.layout.specs.declared.page.Page.{Page}
 use Rattle.memory.specs.Access.{accessRefusal, stored}
-use Rattle.memory.proofs.Accepted.{placed, within}
+use Rattle.memory.proofs.Accepted.{placed}
 use Rattle.vrc6.specs.Boards.{heldBy}
 use Rattle.vrc6.specs.Checks.{cpuWriteRefusal}
-use Rattle.vrc6.proofs.Stores.{cpu-refused, cpu-done}
+use Rattle.vrc6.proofs.Stores.{limited, cpu-refused, cpu-done}
 use borrow.Author.Needs.{needs}
 use Rattle.vrc6.proofs.board.Board.cpu_write.Statement.{statement}
 use Rattle.vrc6.proofs.board.Board.cpu_write.Tie as tie
@@ -43,7 +43,7 @@ store-requires c κs =
 write-register-requires : tie.Need-write-register-requires
 write-register-requires c κs =
     let a = c .before .before .before .before .before .before .before .before .before .before .args in
-    within (a .self .layout) (c .before .before .before .before .before .before .before .cpu-page .result) (length (now (a .fixed))) (length (now (a .changing))) (c .before .before .before .before .before .before .register-checks .result) (sym (c .before .before .before .before .before .access-refusal .ensures) ∙ c .before .before .before .before .if1 .left)
+    limited (a .self .layout) (c .before .before .before .before .before .before .before .cpu-page .result) (length (now (a .fixed))) (length (now (a .changing))) (c .before .before .before .before .before .before .register-checks .result) (sym (c .before .before .before .before .before .access-refusal .ensures) ∙ c .before .before .before .before .if1 .left)
 
 same-length : tie.Need-same-length
 same-length c = search needs

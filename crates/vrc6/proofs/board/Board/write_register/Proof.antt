@@ -1,7 +1,9 @@
 -- `Board::write_register` meets its contract. Assumes nothing.
 use mathlib.Core.Path.{_≡_, sym, ap, ap₂, _∙_}
+use mathlib.Core.Bool.{true}
 use Rattle.decode.specs.declared.Register.{Register}
 use Rattle.vrc6.specs.Calls.{registerWritten}
+use Rattle.vrc6.proofs.Stores.{taken}
 use borrow.Author.Needs.{needs}
 use Rattle.vrc6.proofs.board.Board.write_register.Statement.{statement}
 use Rattle.vrc6.proofs.board.Board.write_register.Tie as tie
@@ -34,7 +36,7 @@ returns : tie.Need-returns
 returns c = let a = c .before .before .before .before .args in ap (λ (r : Register). registerWritten r (a .val) (a .self)) (sym (c .enum-told .given .1) ∙ c .before .before .decode .ensures)
 
 returns-2 : tie.Need-returns-2
-returns-2 c = let a = c .before .before .before .before .before .before .args in c .write-bank .ensures ∙ ap (λ (r : Register). registerWritten r (a .val) (a .self)) (sym (c .before .before .register .given .1) ∙ c .before .before .before .before .decode .ensures)
+returns-2 c = let a = c .before .before .before .before .before .before .args in c .write-bank .ensures ∙ taken (c .before .before .register .given .0 .0) (a .val) (a .self) true (c .before .before .before .before .before .before .pre) ∙ ap (λ (r : Register). registerWritten r (a .val) (a .self)) (sym (c .before .before .register .given .1) ∙ c .before .before .before .before .decode .ensures)
 
 returns-3 : tie.Need-returns-3
 returns-3 c = let a = c .before .before .before .before .before .before .args in rw (c .write-register .ensures) (ap (λ (r : Register). registerWritten r (a .val) (a .self)) (sym (c .before .before .register2 .given .1) ∙ c .before .before .before .before .decode .ensures))
