@@ -11,8 +11,8 @@ use Rattle.vrc_irq.specs.declared.VrcIrq.{VrcIrq}
 use Rattle.vrc_irq.specs.Board.{inRange}
 use Rattle.audio.specs.declared.Audio.{Audio}
 use Rattle.audio.specs.Sound.{summed}
-use Rattle.audio.specs.InRange.{pulseInRange, sawInRange, channelsInRange}
-use Rattle.audio.proofs.Ranged.{three, pulse-in, saw-in}
+use Rattle.channels.specs.InRange.{pulseInRange, sawInRange, channelsInRange}
+use Rattle.channels.proofs.Ranged.{three, pulse-in, saw-in}
 use Rattle.audio.proofs.Steady.{Falls, audio-falls, sum-in-range}
 use Rattle.engine.specs.Engine.{engineClocked, onlyTimers}
 use Rattle.engine.proofs.Engines.{engine-steady}

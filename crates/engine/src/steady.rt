@@ -52,7 +52,7 @@ pub fn steady_timers(irq: VrcIrq, audio: Audio) -> Steady
     let sum = wholes::mixed(pulse1.level(), pulse2.level(), saw.level());
     if wholes::same(audio.out, sum)
         & irq.in_range()
-        & audio::channels_in_range(pulse1, pulse2, saw)
+        & channels::channels_in_range(pulse1, pulse2, saw)
     {
         return Steady {
             yes: true,

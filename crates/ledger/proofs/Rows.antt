@@ -15,8 +15,8 @@ use Rattle.banks.specs.Nametables.{nametableNumbers, nametableMirroring}
 use Rattle.tables.specs.Tables.{cpuEntries, pictureEntries}
 use Rattle.vrc_irq.specs.Board.{forecastAnswer}
 use Rattle.audio.specs.declared.Level.the-variants.{Refused as NoLevel}
-use Rattle.audio.specs.Pulses.{pulseWritten, pulseClocked, pulseLevel}
-use Rattle.audio.specs.Saws.{sawWritten, sawClocked, sawLevel}
+use Rattle.channels.specs.Pulses.{pulseWritten, pulseClocked, pulseLevel}
+use Rattle.channels.specs.Saws.{sawWritten, sawClocked, sawLevel}
 use Rattle.audio.specs.Sound.{audioWritten, audioClocked}
 use Rattle.audio.specs.Levels.{lastPulse, outputOf, levelName, levelOf}
 use Rattle.calls.specs.declared.Call.{Call}

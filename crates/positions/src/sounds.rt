@@ -1,7 +1,7 @@
 // The sound: the reference positions of document 01, the wiki's saw and duty examples, and levels.
 use audio::Level;
-use audio::pulse::Pulse;
-use audio::saw::Saw;
+use channels::pulse::Pulse;
+use channels::saw::Saw;
 use rows::playing::Changing;
 use rows::playing::board_s;
 use rows::playing::board_s_b;
