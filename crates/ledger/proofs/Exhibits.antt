@@ -12,10 +12,10 @@ use Rattle.basics.proofs.Tests.{both}
 use Rattle.layout.specs.declared.regions.MemoryLayout.{MemoryLayout}
 use Rattle.layout.specs.Layout.{withinLimits, fixedLength, changingLength}
 use Rattle.decode.specs.Decode.{decode}
-use Rattle.banks.specs.declared.banking.Mirroring.{Mirroring}
+use Rattle.slots.specs.declared.Mirroring.{Mirroring}
 use Rattle.banks.specs.declared.banking.Revision.{Revision}
 use Rattle.banks.specs.declared.banking.Revision.the-variants.{A, B}
-use Rattle.banks.specs.Chr.{chrSlots}
+use Rattle.slots.specs.Chr.{chrSlots}
 use Rattle.tables.specs.Tables.{pictureEntries}
 use Rattle.calls.specs.declared.Call.the-variants.{Clock}
 use Rattle.vrc6.specs.Boards.{Creation}

@@ -19,10 +19,10 @@ use Rattle.decode.specs.declared.Register.the-variants.{Nothing, OfBank, OfAudi
 use Rattle.decode.specs.declared.BankRegister.the-variants.{Prg16, Prg8, Mode, Chr}
 use Rattle.decode.specs.declared.IrqRegister.the-variants.{Reload, Control, Acknowledge}
 use Rattle.decode.specs.Decode.{decode}
-use Rattle.banks.specs.declared.banking.Mirroring.{Mirroring}
-use Rattle.banks.specs.declared.banking.Mirroring.the-variants.{Vertical, Horizontal, SingleScreenA, SingleScreenB, FourScreen}
+use Rattle.slots.specs.declared.Mirroring.{Mirroring}
+use Rattle.slots.specs.declared.Mirroring.the-variants.{Vertical, Horizontal, SingleScreenA, SingleScreenB, FourScreen}
 use Rattle.banks.specs.Banking.{isB, mirroringNumber, bankingInRange}
-use Rattle.banks.specs.Nametables.{nametableMirroring}
+use Rattle.slots.specs.Nametables.{nametableMirroring}
 use Rattle.tables.proofs.Entries.{entries-law}
 use Rattle.vrc_irq.specs.Board.{step, line}
 use Rattle.vrc_irq.proofs.Board.{pace}

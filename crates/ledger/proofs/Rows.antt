@@ -8,10 +8,10 @@ use Rattle.basics.specs.Rows.{agree}
 use Rattle.basics.specs.Refusals.{unless}
 use Rattle.layout.specs.Layout.{withinLimits}
 use Rattle.decode.specs.Decode.{decode}
-use Rattle.banks.specs.declared.banking.Mirroring.{Mirroring}
+use Rattle.slots.specs.declared.Mirroring.{Mirroring}
 use Rattle.banks.specs.declared.banking.Revision.{Revision}
-use Rattle.banks.specs.Chr.{chrSlots}
-use Rattle.banks.specs.Nametables.{nametableNumbers, nametableMirroring}
+use Rattle.slots.specs.Chr.{chrSlots}
+use Rattle.slots.specs.Nametables.{nametableNumbers, nametableMirroring}
 use Rattle.tables.specs.Tables.{cpuEntries, pictureEntries}
 use Rattle.vrc_irq.specs.Board.{forecastAnswer}
 use Rattle.audio.specs.declared.Level.the-variants.{Refused as NoLevel}

@@ -10,7 +10,7 @@ use Rattle.layout.specs.Pages.{unmapped}
 use Rattle.layout.specs.Entries.{entryInRange}
 use Rattle.paging.specs.Paging.{Side, cpu, picture, entryCount}
 use Rattle.banks.specs.Laws.{WellFormed}
-use Rattle.banks.proofs.Counts.{mirroring-count, numbers-count}
+use Rattle.slots.proofs.Counts.{mirroring-count, numbers-count}
 use Rattle.tables.proofs.Counts.{count-law, repeat-law}
 use Rattle.tables.proofs.Entries.{entries-law}
 use Rattle.audio.specs.declared.Audio.{Audio}

@@ -7,8 +7,8 @@ use Prim.Native.Nat.{ℕ}
 use lib.ListN.{getD, take, replicate}
 use Rattle.layout.specs.declared.regions.MemoryLayout.{MemoryLayout}
 use Rattle.layout.specs.Layout.{withinLimits, fixedLength, changingLength}
-use Rattle.banks.specs.declared.banking.Mirroring.{Mirroring}
-use Rattle.banks.specs.declared.banking.Mirroring.the-variants.{Vertical}
+use Rattle.slots.specs.declared.Mirroring.{Mirroring}
+use Rattle.slots.specs.declared.Mirroring.the-variants.{Vertical}
 use Rattle.banks.specs.declared.banking.Revision.{Revision}
 use Rattle.banks.specs.declared.banking.Revision.the-variants.{A, B}
 use Rattle.calls.specs.declared.Call.{Call}

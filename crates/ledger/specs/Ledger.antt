@@ -20,7 +20,7 @@ use Rattle.decode.specs.declared.IrqRegister.the-variants.{Reload, Control, Ack
 use Rattle.decode.specs.Decode.{decode}
 use Rattle.banks.specs.declared.banking.Banking.{Banking}
 use Rattle.banks.specs.Banking.{mirroringNumber, isB}
-use Rattle.banks.specs.Nametables.{mirroringNumbers, nametableNumbers, nametableMirroring}
+use Rattle.slots.specs.Nametables.{mirroringNumbers, nametableNumbers, nametableMirroring}
 use Rattle.tables.specs.Tables.{tableOf}
 use Rattle.calls.specs.declared.Call.{Call}
 use Rattle.calls.specs.declared.Call.the-variants.{CpuRead, CpuWrite, LentCpuWrite, PictureRead, PictureWrite, Clock, LentClock, SoftReset, HardReset, ReadLevel, PageView, ReadForecast}

@@ -15,9 +15,9 @@ use Rattle.layout.specs.Pages.{unmapped}
 use Rattle.layout.specs.Layout.{region}
 use Rattle.paging.specs.Paging.{cpu, picture, nothing, window}
 use Rattle.banks.specs.declared.banking.Banking.{Banking}
-use Rattle.banks.specs.Chr.{chrSlots}
+use Rattle.slots.specs.Chr.{chrSlots}
 use Rattle.banks.specs.Laws.{WellFormed}
-use Rattle.banks.proofs.Counts.{slots-count}
+use Rattle.slots.proofs.Counts.{slots-count}
 use Rattle.tables.specs.Tables.{cpuEntries, nametableEntries, nametableSource, onePage, pictureEntries}
 use Rattle.tables.specs.Laws.{CountLaw, RepeatLaw}
 

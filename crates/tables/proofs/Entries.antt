@@ -19,7 +19,7 @@ use Rattle.layout.proofs.Entries.{unmapped-law}
 use Rattle.paging.specs.Paging.{cpu, picture, nothing, shown, window}
 use Rattle.paging.proofs.Shown.{shown-law}
 use Rattle.banks.specs.declared.banking.Banking.{Banking}
-use Rattle.banks.specs.Chr.{chrSlots}
+use Rattle.slots.specs.Chr.{chrSlots}
 use Rattle.tables.specs.Tables.{cpuEntries, nametableSource, onePage, pictureEntries}
 use Rattle.tables.specs.Laws.{EntriesLaw}
 

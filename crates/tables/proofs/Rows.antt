@@ -2,8 +2,8 @@
 use mathlib.Core.Path.{_≡_, refl}
 use mathlib.Core.Bool.{true}
 use Rattle.basics.specs.Rows.{agree}
-use Rattle.banks.specs.Chr.{chrSlots}
-use Rattle.banks.specs.Nametables.{nametableMirroring, nametableNumbers}
+use Rattle.slots.specs.Chr.{chrSlots}
+use Rattle.slots.specs.Nametables.{nametableMirroring, nametableNumbers}
 use Rattle.tables.specs.Tables.{cpuEntries, pictureEntries}
 use Rattle.tables.specs.Positions.{rows}
 

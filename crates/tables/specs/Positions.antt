@@ -8,10 +8,10 @@ use Rattle.decode.specs.declared.BankRegister.the-variants.{Prg16, Prg8, Mode, 
 use Rattle.layout.specs.declared.regions.MemoryLayout.{MemoryLayout}
 use Rattle.paging.specs.Paging.{Side, cpu, picture, entryFor}
 use Rattle.banks.specs.declared.banking.Banking.{Banking}
-use Rattle.banks.specs.declared.banking.Mirroring.{Mirroring}
-use Rattle.banks.specs.declared.banking.Mirroring.the-variants.{Vertical, Horizontal, FourScreen}
+use Rattle.slots.specs.declared.Mirroring.{Mirroring}
+use Rattle.slots.specs.declared.Mirroring.the-variants.{Vertical, Horizontal, FourScreen}
 use Rattle.banks.specs.declared.banking.Revision.the-variants.{A}
-use Rattle.banks.specs.Chr.{chrSlots}
+use Rattle.slots.specs.Chr.{chrSlots}
 use Rattle.banks.specs.Banking.{firstBanking, bankWritten}
 use Rattle.tables.specs.Tables.{tableOf}
 

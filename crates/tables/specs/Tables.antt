@@ -13,7 +13,7 @@ use Rattle.layout.specs.declared.regions.Src.the-variants.{PrgRom, PrgRam, Chr,
 use Rattle.layout.specs.Layout.{region}
 use Rattle.paging.specs.Paging.{Side, cpu, picture, shown, window, nothing}
 use Rattle.banks.specs.declared.banking.Banking.{Banking}
-use Rattle.banks.specs.Chr.{chrSlots}
+use Rattle.slots.specs.Chr.{chrSlots}
 
 -- the CPU's 64 entries: nothing below $6000; $6000 8 KiB of PRG RAM bank 0 if mode bit 7, else nothing; $8000 16 KiB of the first
 -- number; $C000 8 KiB of the second; $E000 8 KiB of bank -1 (01, Banks and decode)

@@ -13,8 +13,8 @@ use Rattle.basics.proofs.Tests.{and-left, first-refused, unless-refused}
 use Rattle.layout.specs.declared.regions.MemoryLayout.{MemoryLayout}
 use Rattle.layout.specs.Layout.{withinLimits, lengthsFit, layoutChecks, fixedLength, changingLength}
 use Rattle.memory.proofs.Accepted.{clear, passed}
-use Rattle.banks.specs.declared.banking.Mirroring.{Mirroring}
-use Rattle.banks.specs.declared.banking.Mirroring.the-variants.{Vertical, Horizontal, SingleScreenA, SingleScreenB, FourScreen}
+use Rattle.slots.specs.declared.Mirroring.{Mirroring}
+use Rattle.slots.specs.declared.Mirroring.the-variants.{Vertical, Horizontal, SingleScreenA, SingleScreenB, FourScreen}
 use Rattle.banks.specs.declared.banking.Revision.{Revision}
 use Rattle.banks.specs.declared.banking.Revision.the-variants.{A, B}
 use Rattle.banks.specs.Banking.{mirroringNumber, isB}

@@ -10,8 +10,8 @@ use Rattle.layout.specs.declared.regions.MemoryLayout.{MemoryLayout}
 use Rattle.layout.specs.Layout.{layoutChecks}
 use Rattle.layout.specs.Pages.{offset as offsetOf}
 use Rattle.paging.specs.Paging.{picture}
-use Rattle.banks.specs.declared.banking.Mirroring.{Mirroring}
-use Rattle.banks.specs.declared.banking.Mirroring.the-variants.{Vertical, Horizontal, SingleScreenA, SingleScreenB, FourScreen}
+use Rattle.slots.specs.declared.Mirroring.{Mirroring}
+use Rattle.slots.specs.declared.Mirroring.the-variants.{Vertical, Horizontal, SingleScreenA, SingleScreenB, FourScreen}
 use Rattle.banks.specs.declared.banking.Revision.{Revision}
 use Rattle.banks.specs.declared.banking.Revision.the-variants.{A, B}
 use Rattle.audio.specs.declared.Level.{Level}

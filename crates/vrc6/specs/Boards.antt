@@ -9,7 +9,7 @@ use Rattle.layout.specs.declared.regions.MemoryLayout.{MemoryLayout}
 use Rattle.layout.specs.Pages.{unmapped}
 use Rattle.paging.specs.Paging.{Side, cpu, picture, entryFor}
 use Rattle.banks.specs.declared.banking.Banking.{Banking}
-use Rattle.banks.specs.declared.banking.Mirroring.{Mirroring}
+use Rattle.slots.specs.declared.Mirroring.{Mirroring}
 use Rattle.banks.specs.declared.banking.Revision.{Revision}
 use Rattle.banks.specs.Banking.{firstBanking, zeroBanking}
 use Rattle.tables.specs.Tables.{cpuEntries, pictureEntries}

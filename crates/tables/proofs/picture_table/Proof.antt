@@ -3,7 +3,7 @@ use mathlib.Core.Path.{_≡_}
 use mathlib.Core.List.{_∷_, []}
 use lib.ListN.{length}
 use borrow.Author.Needs.{needs}
-use Rattle.banks.proofs.Spelled.{spelled}
+use Rattle.slots.proofs.Spelled.{spelled}
 use Rattle.tables.proofs.picture_table.Statement.{statement}
 use Rattle.tables.proofs.picture_table.Tie as tie
 
