@@ -9,3 +9,4 @@ pub mod Bytes
 pub mod Tabled
 pub mod Answered
 pub mod Rows
+pub mod InterruptRows

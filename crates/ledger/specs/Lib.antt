@@ -8,3 +8,4 @@ pub mod Played
 pub mod Laws
 pub mod Answers
 pub mod Positions
+pub mod Interrupts

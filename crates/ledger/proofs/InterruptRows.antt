@@ -1,7 +1,7 @@
 -- The reference positions of the interrupt, each by computing. Assumes nothing.
 use mathlib.Core.Path.{refl}
 use Rattle.steps.specs.Times.{times, count}
-use Rattle.vrc_irq.specs.Positions.{Positions}
+use Rattle.ledger.specs.Interrupts.{Positions}
 
 pub positions : Positions
 unfolding times count
