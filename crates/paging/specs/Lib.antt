@@ -1,4 +1,2 @@
 pub mod Paging
 pub mod Inner
-pub mod Laws
-pub mod Positions

@@ -1,32 +1,14 @@
--- The paging rule: which page of a region each entry of a window shows (01, Paging; memory.rs, `map_pages`). Assumes nothing.
-use mathlib.Core.Bool.{cond}
+-- Windows of the two tables, and the entry that serves an address (01, Paging; memory.rs, `map_pages`). Assumes nothing.
 use mathlib.Core.List.{List}
-use Prim.Native.Nat.{ℕ, _+_, _-_, _*_, _/_, _%_, max}
-use lib.Dec.{eqb}
-use lib.IntN.{ℤ, pos, negsuc}
+use Prim.Native.Nat.{ℕ, _/_, _%_}
+use lib.IntN.{ℤ}
 use lib.ListN.{getD}
 use lib.Seq.{sets}
 use Rattle.basics.specs.Lists.{tabulate}
 use Rattle.layout.specs.declared.page.Page.{Page}
 use Rattle.layout.specs.declared.regions.Region.{Region}
-use Rattle.layout.specs.Pages.{entry, unmapped}
-
--- b modulo the count of banks, never negative (01, Paging; `rem_euclid`); `negsuc n` is -(n + 1)
-abbrev pub remEuclid : ℤ → (banks : ℕ) → ℕ
-remEuclid (pos n) banks = n % banks
-remEuclid (negsuc n) banks = banks - 1 - n % banks
-
--- a region's banks of s bytes: max(1, n / s rounded down) (01, Paging)
-abbrev pub bankCount : Region → (s : ℕ) → ℕ
-bankCount r s = max 1 (r .len / s)
-
--- where bank b begins in the region: (b modulo banks) × s (01, Paging)
-abbrev pub base : Region → (s : ℕ) → ℤ → ℕ
-base r s b = remEuclid b (bankCount r s) * s
-
--- page i of a window of s bytes on bank b: region start + (base + 1,024 i) mod n, and unmapped if n = 0 (01, Paging)
-abbrev pub shown : Region → (s : ℕ) → ℤ → (i : ℕ) → Page
-shown r s b i = cond (eqb (r .len) 0) unmapped (entry (r .start + (base r s b + 1024 * i) % r .len) (r .writable))
+use Rattle.layout.specs.Pages.{unmapped}
+use Rattle.rule.specs.Rule.{shown}
 
 -- the entries of a window of s bytes on bank b, one for each of its pages
 abbrev pub window : Region → (s : ℕ) → ℤ → List Page

@@ -1,8 +1,8 @@
 // The picture side's table of 16 entries: the lookup of an address, and windows that are mapped.
-use crate::rule::window_page;
 use layout::Lookup;
 use layout::Page;
 use layout::Region;
+use rule::window_page;
 ghost use mathlib.Core.Path.{_≡_};
 ghost use Rattle.layout.specs.Pages.{found};
 ghost use Rattle.paging.specs.Inner.{Window};

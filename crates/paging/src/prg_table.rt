@@ -1,8 +1,8 @@
 // The CPU's table of 64 entries: the lookup of an address, and windows that are mapped and unmapped.
-use crate::rule::window_page;
 use layout::Lookup;
 use layout::Page;
 use layout::Region;
+use rule::window_page;
 ghost use mathlib.Core.Path.{_≡_};
 ghost use Rattle.layout.specs.Pages.{found};
 ghost use Rattle.paging.specs.Inner.{Inside, Window};

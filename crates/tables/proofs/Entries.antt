@@ -16,8 +16,9 @@ use Rattle.layout.specs.Pages.{unmapped}
 use Rattle.layout.specs.Layout.{withinLimits, region}
 use Rattle.layout.specs.Entries.{entryInRange}
 use Rattle.layout.proofs.Entries.{unmapped-law}
-use Rattle.paging.specs.Paging.{cpu, picture, nothing, shown, window}
-use Rattle.paging.proofs.Shown.{shown-law}
+use Rattle.rule.specs.Rule.{shown}
+use Rattle.paging.specs.Paging.{cpu, picture, nothing, window}
+use Rattle.rule.proofs.Shown.{shown-law}
 use Rattle.banks.specs.declared.banking.Banking.{Banking}
 use Rattle.slots.specs.Chr.{chrSlots}
 use Rattle.tables.specs.Tables.{cpuEntries, nametableSource, onePage, pictureEntries}

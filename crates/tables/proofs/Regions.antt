@@ -7,8 +7,9 @@ use Rattle.layout.specs.declared.regions.Region.{Region}
 use Rattle.layout.specs.declared.regions.Src.{Src}
 use Rattle.layout.specs.Layout.{region}
 use Rattle.layout.specs.Inner.{Limits}
-use Rattle.paging.specs.Inner.{Held, Inside, Window, held}
-use Rattle.paging.proofs.Shown.{ends}
+use Rattle.rule.specs.Inner.{Held, held}
+use Rattle.paging.specs.Inner.{Inside, Window}
+use Rattle.rule.proofs.Shown.{ends}
 use Rattle.tables.specs.Inner.{Below}
 
 module _ (l : MemoryLayout) (h : Limits l) (src : Src) (r : Region) (e : r ≡ region l src) where

@@ -12,9 +12,9 @@ use Rattle.layout.specs.declared.regions.Region.{Region}
 use Rattle.layout.specs.declared.regions.Src.the-variants.{PrgRom, PrgRam}
 use Rattle.layout.specs.Pages.{unmapped}
 use Rattle.layout.specs.Layout.{region}
-use Rattle.paging.specs.declared.runs.Run.{Run}
+use Rattle.rule.specs.declared.runs.Run.{Run}
 use Rattle.paging.specs.Paging.{nothing, replaced, window}
-use Rattle.paging.specs.Inner.{octet, runEntries, runEntry}
+use Rattle.rule.specs.Inner.{octet, runEntries, runEntry}
 use Rattle.banks.specs.declared.banking.Banking.{Banking}
 use Rattle.tables.specs.Inner.{ramEntries}
 use Rattle.tables.specs.Tables.{cpuEntries}

@@ -11,7 +11,8 @@ use Rattle.layout.specs.declared.regions.Region.{Region}
 use Rattle.layout.specs.declared.regions.Src.{Src}
 use Rattle.layout.specs.declared.regions.Src.the-variants.{PrgRom, PrgRam, Chr, CiRam}
 use Rattle.layout.specs.Layout.{region}
-use Rattle.paging.specs.Paging.{Side, cpu, picture, shown, window, nothing}
+use Rattle.rule.specs.Rule.{shown}
+use Rattle.paging.specs.Paging.{Side, cpu, picture, window, nothing}
 use Rattle.banks.specs.declared.banking.Banking.{Banking}
 use Rattle.slots.specs.Chr.{chrSlots}
 

@@ -2,7 +2,7 @@
 use mathlib.Core.Path.{_∙_, ap}
 use lib.IntN.{ℤ}
 use borrow.Author.Needs.{needs}
-use Rattle.paging.specs.Paging.{shown}
+use Rattle.rule.specs.Rule.{shown}
 use Rattle.tables.proofs.Numbers.{signed}
 use Rattle.tables.proofs.one_page.Statement.{statement}
 use Rattle.tables.proofs.one_page.Tie as tie

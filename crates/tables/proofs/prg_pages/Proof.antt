@@ -11,9 +11,9 @@ use mir.Val.{SFits}
 use mir.Facts.{toZ-ofZ}
 use Rattle.basics.proofs.Tests.{and-left, and-right}
 use Rattle.layout.specs.declared.regions.Src.the-variants.{PrgRom, PrgRam}
-use Rattle.paging.specs.Inner.{Held}
-use Rattle.paging.proofs.Filling.{small-none, small-more}
-use Rattle.paging.proofs.Unwrapped.{long-held}
+use Rattle.rule.specs.Inner.{Held}
+use Rattle.rule.proofs.Filling.{small-none, small-more}
+use Rattle.rule.proofs.Unwrapped.{long-held}
 use Rattle.tables.proofs.Numbers.{signed}
 use Rattle.tables.proofs.Regions.{held-by}
 use Rattle.tables.proofs.Windows.{joined}

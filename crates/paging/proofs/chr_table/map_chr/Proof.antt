@@ -7,7 +7,8 @@ use mir.Syntax.{w32}
 use mir.Val.{toZ, ofZ}
 use mir.Facts.{toZ-ofZ}
 use lib.IntN.{ℤ}
-use Rattle.paging.specs.Paging.{shown, window, replaced}
+use Rattle.rule.specs.Rule.{shown}
+use Rattle.paging.specs.Paging.{window, replaced}
 use Rattle.basics.proofs.Runs.{Filled, none, more, done}
 use Rattle.paging.proofs.chr_table.map_chr.Statement.{statement}
 use Rattle.paging.proofs.chr_table.map_chr.Tie as tie
