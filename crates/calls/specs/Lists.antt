@@ -11,8 +11,8 @@ use Rattle.vrc6.specs.declared.board.Written.{Written}
 use Rattle.vrc6.specs.declared.board.Clocked.{Clocked}
 use Rattle.vrc6.specs.declared.board.Leveled.{Leveled}
 use Rattle.vrc6.specs.declared.board.Forecasted.{Forecasted}
-use Rattle.vrc6.specs.declared.board.Forecast.{Forecast}
-use Rattle.vrc6.specs.declared.board.Forecast.the-variants.{None, In, Refused}
+use Rattle.engine.specs.declared.answers.Forecast.{Forecast}
+use Rattle.engine.specs.declared.answers.Forecast.the-variants.{None, In, Refused}
 use Rattle.calls.specs.declared.Call.{Call}
 use Rattle.calls.specs.declared.Call.the-variants.{CpuRead, CpuWrite, LentCpuWrite, PictureRead, PictureWrite, Clock, LentClock, SoftReset, HardReset, ReadLevel, PageView, ReadForecast}
 use Rattle.calls.specs.declared.Answer.{Answer}

@@ -1,9 +1,11 @@
-// Interrupt and sound without the board around them: a clock of both, and a byte that a register of either takes.
+// Interrupt and sound without the board around them: what clock, reset, level and forecast do with both, and a byte that
+// a register of either takes.
 use audio::Audio;
 use vrc_irq::VrcIrq;
 ghost use mathlib.Core.Path.{_≡_};
 ghost use Rattle.engine.specs.Engine.{engineClocked, engineOk};
 
+pub mod answers;
 pub mod steady;
 pub mod writes;
 

@@ -6,8 +6,9 @@ use Rattle.vrc_irq.specs.Board.{forecastAnswer}
 use Rattle.audio.specs.declared.Level.the-variants.{Refused as NoLevel}
 use Rattle.audio.specs.Sound.{anyEnabled}
 use Rattle.audio.specs.Levels.{levelOf, levelName, outputOf}
-use Rattle.vrc6.specs.declared.board.Forecast.the-variants.{Refused}
-use Rattle.vrc6.specs.Calls.{forecastOf, level, forecast}
+use Rattle.engine.specs.declared.answers.Forecast.the-variants.{Refused}
+use Rattle.engine.specs.Engine.{forecastOf}
+use Rattle.vrc6.specs.Calls.{level, forecast}
 use Rattle.ledger.specs.Answers.{ForecastLaw, LevelLaw}
 
 pub forecast-law : ForecastLaw

@@ -14,12 +14,13 @@ use Rattle.vrc_irq.specs.Board.{forecastAnswer}
 use Rattle.vrc6.specs.declared.board.Board.{Board}
 use Rattle.vrc6.specs.declared.board.ByteRead.{ByteRead}
 use Rattle.vrc6.specs.declared.board.Written.{Written}
-use Rattle.vrc6.specs.declared.board.Forecast.the-variants.{Refused}
+use Rattle.engine.specs.declared.answers.Forecast.the-variants.{Refused}
 use Rattle.calls.specs.declared.Call.{Call}
 use Rattle.calls.specs.declared.Call.the-variants.{CpuRead, CpuWrite, LentCpuWrite, PictureRead, PictureWrite, Clock, LentClock, SoftReset, HardReset, ReadLevel, PageView, ReadForecast}
 use Rattle.vrc6.specs.Boards.{State, heldBy, newBoard, zeroBoard}
 use Rattle.vrc6.specs.Checks.{createRefusal, memoryRefusal, engineRefusal, cpuWriteRefusal}
-use Rattle.vrc6.specs.Calls.{byteRead, cpuWrite, pictureWrite, reset, forecastOf}
+use Rattle.engine.specs.Engine.{forecastOf}
+use Rattle.vrc6.specs.Calls.{byteRead, cpuWrite, pictureWrite, reset}
 use Rattle.calls.specs.Lists.{ofRead, ofWrite, given, refusalIn, next}
 use Rattle.ledger.specs.Demand3.{Each}
 use Rattle.ledger.specs.Refused.{forecastTold, GivenBack, RefusedLaw, RefusedCreateLaw, checks, createChecks, Numbered, OrderLaw}

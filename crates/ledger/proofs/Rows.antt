@@ -21,10 +21,10 @@ use Rattle.audio.specs.Sound.{audioWritten, audioClocked}
 use Rattle.audio.specs.Levels.{lastPulse, outputOf, levelName, levelOf}
 use Rattle.calls.specs.declared.Call.{Call}
 use Rattle.calls.specs.declared.Call.the-variants.{Clock}
-use Rattle.vrc6.specs.declared.board.Forecast.the-variants.{Refused}
+use Rattle.engine.specs.declared.answers.Forecast.the-variants.{Refused}
 use Rattle.vrc6.specs.Boards.{State, Creation}
 use Rattle.vrc6.specs.Checks.{createRefusal}
-use Rattle.vrc6.specs.Calls.{forecastOf}
+use Rattle.engine.specs.Engine.{forecastOf}
 use Rattle.calls.specs.Lists.{after, answers}
 use Rattle.ledger.specs.Ledger.{opening}
 use Rattle.ledger.specs.Demand3.{start}

@@ -27,13 +27,14 @@ use Rattle.audio.specs.declared.Level.the-variants.{Refused as NoLevel}
 use Rattle.audio.specs.Sound.{audioWritten, audioClocked, audioReset, anyEnabled}
 use Rattle.audio.specs.Levels.{levelOf, levelName, levelRefusal, outputOf}
 use Rattle.vrc6.specs.declared.board.Board.{Board}
-use Rattle.vrc6.specs.declared.board.Forecast.the-variants.{Refused}
+use Rattle.engine.specs.declared.answers.Forecast.the-variants.{Refused}
 use Rattle.calls.specs.declared.Call.{Call}
 use Rattle.calls.specs.declared.Call.the-variants.{CpuRead, CpuWrite, LentCpuWrite, PictureRead, PictureWrite, Clock, LentClock, SoftReset, HardReset, ReadLevel, PageView, ReadForecast}
 use Rattle.vrc6.specs.Boards.{State, heldBy, Creation, paged}
 use Rattle.vrc6.specs.Checks.{engineRefusal, memoryRefusal, cpuWriteRefusal}
+use Rattle.engine.specs.Engine.{forecastOf}
 use Rattle.engine.specs.Writes.{irqWritten}
-use Rattle.vrc6.specs.Calls.{registerWritten, cpuWritten, pictureWritten, clocked, wasReset, forecastOf}
+use Rattle.vrc6.specs.Calls.{registerWritten, cpuWritten, pictureWritten, clocked, wasReset}
 use Rattle.calls.specs.Lists.{given, refusalIn, tickIn, forecastRefusal, next}
 use Rattle.ledger.specs.Ledger.{Ledger, Registers, Timing, Event, cpuWrites, pictureWrites, clocks, resets, looks, event, noted, byteOf, has, anyHas, bankingOf, taken, registersAfter, timingAfter, copied}
 use Rattle.ledger.specs.Refused.{checks}

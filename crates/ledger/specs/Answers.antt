@@ -6,7 +6,7 @@ use Rattle.audio.specs.declared.Level.the-variants.{Silent, Held, Playing}
 use Rattle.audio.specs.Sound.{anyEnabled}
 use Rattle.audio.specs.Levels.{outputOf}
 use Rattle.vrc6.specs.declared.board.Board.{Board}
-use Rattle.vrc6.specs.declared.board.Forecast.the-variants.{None, In}
+use Rattle.engine.specs.declared.answers.Forecast.the-variants.{None, In}
 use Rattle.vrc6.specs.Checks.{engineRefusal}
 use Rattle.vrc6.specs.Calls.{level, forecast}
 

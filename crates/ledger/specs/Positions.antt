@@ -17,8 +17,8 @@ use Rattle.banks.specs.declared.banking.Revision.the-variants.{A, B}
 use Rattle.audio.specs.declared.Level.{Level}
 use Rattle.audio.specs.declared.Level.the-variants.{Silent, Held, Playing, Refused as NoLevel}
 use Rattle.vrc6.specs.declared.board.Board.{Board}
-use Rattle.vrc6.specs.declared.board.Forecast.{Forecast}
-use Rattle.vrc6.specs.declared.board.Forecast.the-variants.{None, In, Refused}
+use Rattle.engine.specs.declared.answers.Forecast.{Forecast}
+use Rattle.engine.specs.declared.answers.Forecast.the-variants.{None, In, Refused}
 use Rattle.calls.specs.declared.Call.{Call}
 use Rattle.calls.specs.declared.Call.the-variants.{CpuWrite, PictureWrite, Clock, SoftReset}
 use Rattle.vrc6.specs.Boards.{entryOf}

@@ -13,8 +13,8 @@ use Rattle.layout.specs.Layout.{withinLimits, lengthsFit}
 use Rattle.layout.specs.Entries.{entryInRange}
 use Rattle.paging.specs.Paging.{Side, cpu, picture}
 use Rattle.audio.specs.Levels.{levelIn}
-use Rattle.vrc6.specs.declared.board.Forecast.{Forecast}
-use Rattle.vrc6.specs.declared.board.Forecast.the-variants.{None, In, Refused}
+use Rattle.engine.specs.declared.answers.Forecast.{Forecast}
+use Rattle.engine.specs.declared.answers.Forecast.the-variants.{None, In, Refused}
 use Rattle.calls.specs.declared.Call.{Call}
 use Rattle.calls.specs.declared.Call.the-variants.{CpuRead, CpuWrite, LentCpuWrite, PictureRead, PictureWrite, Clock, LentClock, SoftReset, HardReset, ReadLevel, PageView, ReadForecast}
 use Rattle.vrc6.specs.Boards.{State, Creation, zeroBoard, entryOf}

@@ -22,8 +22,8 @@ use Rattle.vrc6.specs.declared.board.Board.{Board}
 use Rattle.vrc6.specs.declared.board.Clocked.{Clocked}
 use Rattle.vrc6.specs.declared.board.Created.{Created}
 use Rattle.engine.specs.declared.steady.Steady.{Steady}
-use Rattle.vrc6.specs.declared.board.Forecast.{Forecast}
-use Rattle.vrc6.specs.declared.board.Forecast.the-variants.{None, In, Refused}
+use Rattle.engine.specs.declared.answers.Forecast.{Forecast}
+use Rattle.engine.specs.declared.answers.Forecast.the-variants.{None, In, Refused}
 use Rattle.vrc6.specs.Boards.{State, entryOf, withEngine, zeroBoard}
 use Rattle.vrc6.specs.Checks.{allZero}
 use Rattle.vrc6.specs.Calls.{clock, create, pageViewRefusal}

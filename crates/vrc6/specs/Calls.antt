@@ -12,13 +12,10 @@ use Rattle.decode.specs.declared.Register.{Register}
 use Rattle.decode.specs.declared.Register.the-variants.{Nothing, OfBank, OfAudio, OfIrq}
 use Rattle.decode.specs.Decode.{decode}
 use Rattle.banks.specs.Banking.{bankWritten}
-use Rattle.vrc_irq.specs.declared.IrqForecast.{IrqForecast}
-use Rattle.vrc_irq.specs.declared.IrqForecast.the-variants.{None as NoClocks, In as InClocks}
 use Rattle.vrc_irq.specs.Interrupt.{irqZero}
-use Rattle.vrc_irq.specs.Board.{clockAnswer, forecastAnswer}
-use Rattle.audio.specs.declared.Level.the-variants.{Refused as NoLevel}
+use Rattle.vrc_irq.specs.Board.{clockAnswer}
 use Rattle.audio.specs.Sound.{audioWritten, audioClocked, audioReset}
-use Rattle.audio.specs.Levels.{levelOf}
+use Rattle.engine.specs.Engine.{engineLevel, engineForecast}
 use Rattle.engine.specs.Writes.{irqWritten}
 use Rattle.vrc6.specs.declared.board.Board.{Board}
 use Rattle.vrc6.specs.declared.board.Created.{Created}
@@ -27,8 +24,6 @@ use Rattle.vrc6.specs.declared.board.Written.{Written}
 use Rattle.vrc6.specs.declared.board.Clocked.{Clocked}
 use Rattle.vrc6.specs.declared.board.Leveled.{Leveled}
 use Rattle.vrc6.specs.declared.board.Forecasted.{Forecasted}
-use Rattle.vrc6.specs.declared.board.Forecast.{Forecast}
-use Rattle.vrc6.specs.declared.board.Forecast.the-variants.{None, In, Refused}
 use Rattle.vrc6.specs.Boards.{State, heldBy, Creation, paged, newBoard, zeroBoard, withEngine, entryOf}
 use Rattle.vrc6.specs.Checks.{createRefusal, engineRefusal, memoryRefusal, cpuWriteRefusal}
 
@@ -117,17 +112,11 @@ reset b = record { board = unless (engineRefusal b) (wasReset b) b; refusal = en
 
 -- the level under its name, or the number
 abbrev pub level : Board → Leveled
-level b = record { board = b; level = unless (engineRefusal b) (levelOf (b .audio)) (NoLevel (engineRefusal b)) }
-
--- the interrupt's forecast as the board answers it
-abbrev pub forecastOf : IrqForecast → Forecast
-forecastOf NoClocks = None
-forecastOf (InClocks n) = In n
+level b = record { board = b; level = engineLevel (b .irq) (b .audio) }
 
 -- the forecast, or the number
 abbrev pub forecast : Board → Forecasted
-forecast b =
-    record { board = b; forecast = unless (engineRefusal b) (forecastOf (forecastAnswer (b .irq))) (Refused (engineRefusal b)) }
+forecast b = record { board = b; forecast = engineForecast (b .irq) (b .audio) }
 
 -- ---- page view
 -- nothing but the 1,024 bytes that the picture entry points at; refused, none

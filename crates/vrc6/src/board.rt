@@ -2,6 +2,7 @@
 use audio::Audio;
 use audio::Level;
 use banks::banking::Banking;
+pub use engine::answers::Forecast;
 use layout::MemoryLayout;
 use layout::Page;
 use vrc_irq::VrcIrq;
@@ -20,13 +21,6 @@ pub struct Board {
 pub enum ResetKind {
     Soft,
     Hard,
-}
-
-// The clocks until the interrupt, or the number of a refusal.
-pub enum Forecast {
-    None,
-    In(u32),
-    Refused(u8),
 }
 
 // The answers. A refusal is a number, 0 for none.

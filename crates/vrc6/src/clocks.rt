@@ -1,27 +1,17 @@
-// The calls that check interrupt and sound values only: clock, reset, level, forecast.
+// The calls that check interrupt and sound values only: clock, reset, level, forecast. Crate engine does them without the
+// board around both.
 use crate::board::Board;
 use crate::board::Clocked;
-use crate::board::Forecast;
 use crate::board::Forecasted;
 use crate::board::Leveled;
 use crate::board::ResetKind;
 use crate::board::Written;
-use audio::Level;
+use engine::answers::forecast_engine;
+use engine::answers::level_engine;
+use engine::answers::reset_engine;
 use engine::clock_engine;
-use engine::engine_in_range;
-use vrc_irq::IrqForecast;
 ghost use mathlib.Core.Path.{_≡_};
-ghost use Rattle.vrc6.specs.Calls.{clock, forecast, forecastOf, level, reset};
-
-// The interrupt's forecast as the board answers it.
-fn forecast_of(of: IrqForecast) -> Forecast
-    ensures { λ r. ⌜ r ≡ forecastOf of ⌝ }
-{
-    match of {
-        IrqForecast::None => Forecast::None,
-        IrqForecast::In(clocks) => Forecast::In(clocks),
-    }
-}
+ghost use Rattle.vrc6.specs.Calls.{clock, forecast, level, reset};
 
 impl Board {
     pub fn clock(self) -> Clocked
@@ -44,49 +34,33 @@ impl Board {
     pub fn reset(self, _kind: ResetKind) -> Written
         ensures { λ r. ⌜ r ≡ reset self ⌝ }
     {
-        let irq = self.irq;
-        let audio = self.audio;
-        if engine_in_range(irq, audio) {
-            let cleared = irq.reset();
-            let sound = audio.reset();
-            let mut board = self;
-            board.irq = cleared;
-            board.audio = sound;
-            return Written { board, refusal: 0 };
-        }
+        let r = reset_engine(self.irq, self.audio);
+        let irq = r.irq;
+        let audio = r.audio;
+        let mut board = self;
+        board.irq = irq;
+        board.audio = audio;
         Written {
-            board: self,
-            refusal: 3,
+            board,
+            refusal: r.refusal,
         }
     }
 
     pub fn level(self) -> Leveled
         ensures { λ r. ⌜ r ≡ level self ⌝ }
     {
-        if engine_in_range(self.irq, self.audio) {
-            let level = self.audio.named_output();
-            return Leveled { board: self, level };
-        }
-        Leveled {
-            board: self,
-            level: Level::Refused(3),
-        }
+        let level = level_engine(self.irq, self.audio);
+        Leveled { board: self, level }
     }
 
     // The clocks until the interrupt; None if and only if the counter is not enabled.
     pub fn forecast(self) -> Forecasted
         ensures { λ r. ⌜ r ≡ forecast self ⌝ }
     {
-        if engine_in_range(self.irq, self.audio) {
-            let forecast = forecast_of(self.irq.forecast());
-            return Forecasted {
-                board: self,
-                forecast,
-            };
-        }
+        let forecast = forecast_engine(self.irq, self.audio);
         Forecasted {
             board: self,
-            forecast: Forecast::Refused(3),
+            forecast,
         }
     }
 }

@@ -1,7 +1,7 @@
 -- `forecast_of` meets its contract. Assumes nothing.
 use borrow.Author.Needs.{needs}
-use Rattle.vrc6.proofs.clocks.forecast_of.Statement.{statement}
-use Rattle.vrc6.proofs.clocks.forecast_of.Tie as tie
+use Rattle.engine.proofs.answers.forecast_of.Statement.{statement}
+use Rattle.engine.proofs.answers.forecast_of.Tie as tie
 
 enum-told : tie.Need-enum-told
 enum-told c = search needs
