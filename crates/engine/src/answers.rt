@@ -26,8 +26,9 @@ pub fn reset_engine(irq: VrcIrq, audio: Audio) -> EngineReset
     ensures { λ r. ⌜ r ≡ engineReset irq audio ⌝ }
 {
     if engine_in_range(irq, audio) {
+        let cleared = irq.reset();
         return EngineReset {
-            irq: irq.reset(),
+            irq: cleared,
             audio: audio.reset(),
             refusal: 0,
         };

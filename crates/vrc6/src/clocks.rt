@@ -34,15 +34,15 @@ impl Board {
     pub fn reset(self, _kind: ResetKind) -> Written
         ensures { λ r. ⌜ r ≡ reset self ⌝ }
     {
-        let r = reset_engine(self.irq, self.audio);
-        let irq = r.irq;
-        let audio = r.audio;
+        let after = reset_engine(self.irq, self.audio);
+        let irq = after.irq;
+        let audio = after.audio;
         let mut board = self;
         board.irq = irq;
         board.audio = audio;
         Written {
             board,
-            refusal: r.refusal,
+            refusal: after.refusal,
         }
     }
 
