@@ -9,7 +9,7 @@ use Rattle.script.specs.Numbers.{numberOf}
 use Rattle.sheet.specs.declared.letters.Pair.the-variants as pair
 use Rattle.sheet.specs.declared.step.Step.the-variants.{Reset, Wrong}
 use Rattle.sheet.specs.Letters.{pairFrom, pairOf}
-use Rattle.sheet.specs.Marks.{FirstAt, isMark}
+use Rattle.sheet.specs.Marks.{PlaceOf, fromMark}
 use Rattle.sheet.specs.Steps.{clocksFrom, isReset, stepFrom, stepOf, writeFrom}
 use Rattle.sheet.proofs.Spans.{head, tail, missing, there, onward}
 
@@ -28,7 +28,7 @@ module _ (w : List ℕ) (r : isReset w ≡ false) where
     unfolding stepOf
     counts e = rw (r, ne-eqb (length w) 0 s, eq-eqb (getD w 0 0) 43 e) (ap (λ (l : List ℕ). clocksFrom (numberOf 10 1_000_000 l)) (onward w 1))
 
-    module _ (p : getD w 0 0 ≡ 43 → ⊥) (at : ℕ) (f : FirstAt (isMark 61) w 0 at) where
+    module _ (p : getD w 0 0 ≡ 43 → ⊥) (at : ℕ) (f : PlaceOf (fromMark 61) w 0 at) where
       pub unmarked : at ≡ length w → Wrong 7 ≡ stepOf w
       unfolding stepOf
       unmarked e = rw (r, ne-eqb (length w) 0 s, ne-eqb (getD w 0 0) 43 p, missing 61 w at f e)
@@ -41,7 +41,7 @@ module _ (w : List ℕ) (r : isReset w ≡ false) where
           (ap₂ (λ (a b : List ℕ). writeFrom (numberOf 16 65_535 a) (numberOf 16 255 b)) (head 61 w at f) (tail 61 w at f))
 
 -- a word of the letters' cell
-module _ (w : List ℕ) (at : ℕ) (f : FirstAt (isMark 58) w 0 at) where
+module _ (w : List ℕ) (at : ℕ) (f : PlaceOf (fromMark 58) w 0 at) where
   pub no-pair : at ≡ length w → pair.Wrong 1 ≡ pairOf w
   unfolding pairOf
   no-pair e = rw (missing 58 w at f e)

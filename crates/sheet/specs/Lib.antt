@@ -1,4 +1,6 @@
+pub mod Cells
 pub mod Laws
 pub mod Letters
 pub mod Marks
+pub mod Places
 pub mod Steps

@@ -15,13 +15,9 @@ fromFirst test (b ∷ bs) = cond (test b) (b ∷ bs) (fromFirst test bs)
 abbrev pub before : (text part : List ℕ) → List ℕ
 before text part = take (length text - length part) text
 
--- a byte that is the mark
-abbrev pub isMark : (mark byte : ℕ) → Bool
-isMark mark byte = eqb byte mark
-
 -- a text from the first mark on
 abbrev pub fromMark : (mark : ℕ) → List ℕ → List ℕ
-fromMark mark s = fromFirst (isMark mark) s
+fromMark mark s = fromFirst (λ (b : ℕ). eqb b mark) s
 
 -- what stands before it
 abbrev pub beforeMark : (mark : ℕ) → List ℕ → List ℕ
@@ -31,8 +27,8 @@ beforeMark mark s = before s (fromMark mark s)
 abbrev pub behindMark : (mark : ℕ) → List ℕ → List ℕ
 behindMark mark s = drop 1 (fromMark mark s)
 
--- the place, from another on, of the first byte that a test takes
-pub record FirstAt (test : ℕ → Bool) (text : List ℕ) (from at : ℕ) : Type 0 where
+-- the place, from another on, where the text is what a rule leaves of it
+pub record PlaceOf (rule : List ℕ → List ℕ) (text : List ℕ) (from at : ℕ) : Type 0 where
   pub behind : from ≤ at
   pub within : at ≤ length text
-  pub rest : drop at text ≡ fromFirst test (drop from text)
+  pub rest : drop at text ≡ rule (drop from text)

@@ -1,4 +1,5 @@
 // A sheet of scenes: its rows and cells as spreadsheets export them, the names of its columns, and the words of its cells.
+pub mod cells;
 pub mod letters;
 pub mod marks;
 pub mod step;

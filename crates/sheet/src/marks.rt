@@ -1,10 +1,10 @@
 // Where a byte stands first in a text.
 ghost use mathlib.Core.Path.{_≡_};
-ghost use Rattle.sheet.specs.Marks.{FirstAt, isMark};
+ghost use Rattle.sheet.specs.Marks.{PlaceOf, fromMark};
 
 // The place of the first such byte; the text's end where there is none.
 pub fn place_of(text: &[u8], mark: u8) -> usize
-    ensures { λ r. ⌜ FirstAt (isMark mark) (now (text .entry)) 0 r ⌝ }
+    ensures { λ r. ⌜ PlaceOf (fromMark mark) (now (text .entry)) 0 r ⌝ }
 {
     let mut i: usize = 0;
     while i < text.len() {

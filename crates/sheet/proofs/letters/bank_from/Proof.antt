@@ -1,7 +1,7 @@
 -- `bank_from` meets its contract. Assumes nothing.
 use mathlib.Core.Path.{sym, ap}
-use Rattle.sheet.specs.Letters.{bankFrom}
 use borrow.Author.Needs.{needs}
+use Rattle.sheet.specs.Letters.{bankFrom}
 use Rattle.sheet.proofs.letters.bank_from.Statement.{statement}
 use Rattle.sheet.proofs.letters.bank_from.Tie as tie
 

@@ -1,8 +1,8 @@
 -- `pair_from` meets its contract. Assumes nothing.
 use mathlib.Core.Path.{sym, ap, _∙_}
+use borrow.Author.Needs.{needs}
 use Rattle.script.specs.declared.number.Number.{Number}
 use Rattle.sheet.specs.Letters.{pairFrom}
-use borrow.Author.Needs.{needs}
 use Rattle.sheet.proofs.letters.pair_from.Statement.{statement}
 use Rattle.sheet.proofs.letters.pair_from.Tie as tie
 

@@ -1,8 +1,8 @@
 -- `pair_of` meets its contract. Assumes nothing.
 use mathlib.Core.Path.{ap₂, _∙_}
+use borrow.Author.Needs.{needs}
 use Rattle.sheet.specs.Letters.{pairFrom}
 use Rattle.sheet.proofs.Said.{no-pair, pairs}
-use borrow.Author.Needs.{needs}
 use Rattle.sheet.proofs.letters.pair_of.Statement.{statement}
 use Rattle.sheet.proofs.letters.pair_of.Tie as tie
 

@@ -1,7 +1,7 @@
 -- `clocks_from` meets its contract. Assumes nothing.
 use mathlib.Core.Path.{sym, ap}
-use Rattle.sheet.specs.Steps.{clocksFrom}
 use borrow.Author.Needs.{needs}
+use Rattle.sheet.specs.Steps.{clocksFrom}
 use Rattle.sheet.proofs.step.clocks_from.Statement.{statement}
 use Rattle.sheet.proofs.step.clocks_from.Tie as tie
 

@@ -1,7 +1,7 @@
 -- `code_of` meets its contract. Assumes nothing.
 use mathlib.Core.Path.{sym, ap}
-use Rattle.sheet.specs.Steps.{codeOf}
 use borrow.Author.Needs.{needs}
+use Rattle.sheet.specs.Steps.{codeOf}
 use Rattle.sheet.proofs.step.code_of.Statement.{statement}
 use Rattle.sheet.proofs.step.code_of.Tie as tie
 

@@ -1,9 +1,9 @@
 -- `step_coded` meets its contract. Assumes nothing.
 use mathlib.Core.Path.{sym, ap}
 use Prim.Native.Nat.{ℕ, _%_}
+use borrow.Author.Needs.{needs}
 use Rattle.sheet.specs.Steps.{stepFrom}
 use Rattle.sheet.proofs.Said.{other-kind}
-use borrow.Author.Needs.{needs}
 use Rattle.sheet.proofs.step.step_coded.Statement.{statement}
 use Rattle.sheet.proofs.step.step_coded.Tie as tie
 

@@ -1,8 +1,8 @@
 -- `step_of` meets its contract. Assumes nothing.
 use mathlib.Core.Path.{sym, ap, ap₂, _∙_}
+use borrow.Author.Needs.{needs}
 use Rattle.sheet.specs.Steps.{clocksFrom, writeFrom}
 use Rattle.sheet.proofs.Said.{resets, empty, counts, unmarked, writes}
-use borrow.Author.Needs.{needs}
 use Rattle.sheet.proofs.step.step_of.Statement.{statement}
 use Rattle.sheet.proofs.step.step_of.Tie as tie
 

@@ -1,7 +1,7 @@
 -- `with_byte` meets its contract. Assumes nothing.
 use mathlib.Core.Path.{sym, ap}
-use Rattle.sheet.specs.Steps.{byteFrom}
 use borrow.Author.Needs.{needs}
+use Rattle.sheet.specs.Steps.{byteFrom}
 use Rattle.sheet.proofs.step.with_byte.Statement.{statement}
 use Rattle.sheet.proofs.step.with_byte.Tie as tie
 
