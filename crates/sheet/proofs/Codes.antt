@@ -2,10 +2,9 @@
 use mathlib.Core.Path.{_≡_, refl, ap, ap₂, _∙_}
 use Prim.Native.Nat.{ℕ, _+_, _*_, _/_, _%_, _<_}
 use native.Mathlib.Omega.{arith}
-use Rattle.sheet.specs.declared.step.Step.{Step}
 use Rattle.sheet.specs.declared.step.Step.the-variants.{Write, Clocks, Reset, Wrong}
 use Rattle.sheet.specs.Laws.{CodeLaw}
-use Rattle.sheet.specs.Steps.{codeOf, stepCoded, stepFrom}
+use Rattle.sheet.specs.Steps.{stepCoded, stepFrom}
 
 -- a number by its kind and what it carries
 by-kind : (kind low code : ℕ) → code ≡ kind * 0x1000000 + low → low < 0x1000000 → stepCoded code ≡ stepFrom kind low

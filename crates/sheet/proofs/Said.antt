@@ -1,6 +1,6 @@
 -- What a word says, by the tests that the code makes. Assumes nothing.
 use mathlib.Core.Path.{_≡_, refl, ap, ap₂}
-use mathlib.Core.Bool.{Bool, true, false}
+use mathlib.Core.Bool.{true, false}
 use mathlib.Core.List.{List}
 use Prim.Native.Nat.{ℕ, zero, suc, _+_, _-_, _%_}
 use borrow.Author.Tests.{eq-eqb, ne-eqb}

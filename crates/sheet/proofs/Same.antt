@@ -1,6 +1,6 @@
 -- Two names compared byte by byte. Assumes nothing.
 use mathlib.Core.Path.{_≡_, refl, sym, ap, ap₂, _∙_}
-use mathlib.Core.Bool.{Bool, true, false, _&&_}
+use mathlib.Core.Bool.{Bool, true, false, cond, _&&_}
 use mathlib.Core.List.{List, [], _∷_}
 use Prim.Native.Nat.{ℕ, suc, _+_, _≤_, _<_}
 use native.Mathlib.Omega.{arith}
@@ -53,3 +53,8 @@ module _ (a b : List ℕ) (i : ℕ) (p : Alike a b i) where
   finished h =
       let m : length b ≤ i = omega (arith, p .size) in
       ap₂ sameName (sym (drop-of-length-le a h)) (sym (drop-of-length-le b m)) ∙ p .rest
+
+-- a list's name, and the later ones
+pub or-later : (names : List (List ℕ)) (name : List ℕ) (k : ℕ) {r s u : ℕ} → r ≡ cond (sameName name (getD names k [])) k s → s ≡ u
+    → r ≡ cond (sameName name (getD names k [])) k u
+or-later names name k e f = e ∙ ap (cond (sameName name (getD names k [])) k) f

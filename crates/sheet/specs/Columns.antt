@@ -1,6 +1,7 @@
 -- The columns of a sheet (docs/SCENES.md). Assumes nothing.
 use mathlib.Core.List.{List, [], _∷_}
 use Prim.Native.Nat.{ℕ}
+use lib.ListN.{drop}
 use Rattle.sheet.specs.Names.{placeFrom}
 
 -- scene, prg, chr, revision, mirroring, writes, window, letters, menu (ASCII)
@@ -17,6 +18,10 @@ columns =
     ∷ (109 ∷ 101 ∷ 110 ∷ 117 ∷ [])
     ∷ []
 
--- the column of a name: its place in the list, 9 for another name
+-- the column of a name among those from a place of the list on: its place, 9 for another name
+abbrev pub columnFrom : (place : ℕ) → List ℕ → ℕ
+columnFrom place name = placeFrom place name (drop place columns)
+
+-- the column of a name
 unfoldable pub columnOf : List ℕ → ℕ
-columnOf name = placeFrom 0 name columns
+columnOf name = columnFrom 0 name

@@ -1,7 +1,7 @@
 // The columns of a sheet, by the names in its first row.
 use crate::names::named;
 ghost use mathlib.Core.Path.{_≡_};
-ghost use Rattle.sheet.specs.Columns.{columnOf};
+ghost use Rattle.sheet.specs.Columns.{columnFrom, columnOf};
 
 pub const SCENE: u8 = 0;
 
@@ -23,17 +23,27 @@ pub const MENU: u8 = 8;
 
 pub const NO_COLUMN: u8 = 9;
 
+fn from_window(name: &[u8]) -> u8
+    ensures { λ r. ⌜ r ≡ columnFrom 6 (now (name .entry)) ⌝ }
+{
+    let menu = named(name, b"menu", MENU, NO_COLUMN);
+    let letters = named(name, b"letters", LETTERS, menu);
+    named(name, b"window", WINDOW, letters)
+}
+
+fn from_revision(name: &[u8]) -> u8
+    ensures { λ r. ⌜ r ≡ columnFrom 3 (now (name .entry)) ⌝ }
+{
+    let writes = named(name, b"writes", WRITES, from_window(name));
+    let mirroring = named(name, b"mirroring", MIRRORING, writes);
+    named(name, b"revision", REVISION, mirroring)
+}
+
 // The column that a cell of the first row names.
 pub fn column_of(name: &[u8]) -> u8
     ensures { λ r. ⌜ r ≡ columnOf (now (name .entry)) ⌝ }
 {
-    let from_menu = named(name, b"menu", MENU, NO_COLUMN);
-    let from_letters = named(name, b"letters", LETTERS, from_menu);
-    let from_window = named(name, b"window", WINDOW, from_letters);
-    let from_writes = named(name, b"writes", WRITES, from_window);
-    let from_mirroring = named(name, b"mirroring", MIRRORING, from_writes);
-    let from_revision = named(name, b"revision", REVISION, from_mirroring);
-    let from_chr = named(name, b"chr", CHR, from_revision);
-    let from_prg = named(name, b"prg", PRG, from_chr);
-    named(name, b"scene", SCENE, from_prg)
+    let chr = named(name, b"chr", CHR, from_revision(name));
+    let prg = named(name, b"prg", PRG, chr);
+    named(name, b"scene", SCENE, prg)
 }

@@ -1,5 +1,4 @@
 // Where a byte stands first in a text.
-ghost use mathlib.Core.Path.{_≡_};
 ghost use Rattle.sheet.specs.Marks.{PlaceOf, fromMark};
 
 // The place of the first such byte; the text's end where there is none.

@@ -1,6 +1,8 @@
 -- `mirroring_of` meets its contract. Assumes nothing.
 use borrow.Author.Needs.{needs}
-use Rattle.sheet.specs.Choices.{mirroringOf}
+use denote.Ref.{now}
+use Rattle.sheet.specs.Choices.{mirroringOf, mirrorings}
+use Rattle.sheet.proofs.Same.{or-later}
 use Rattle.sheet.proofs.choices.mirroring_of.Statement.{statement}
 use Rattle.sheet.proofs.choices.mirroring_of.Tie as tie
 
@@ -36,7 +38,13 @@ named-requires-5 c κs = search needs
 
 returns : tie.Need-returns
 unfolding mirroringOf
-returns c = cc
+returns c =
+    let N = now (c .before .before .before .before .before .before .before .before .before .before .before .args .cell) in
+    or-later mirrorings N 0 (c .named5 .ensures)
+    (or-later mirrorings N 1 (c .before .before .named4 .ensures)
+    (or-later mirrorings N 2 (c .before .before .before .before .named3 .ensures)
+    (or-later mirrorings N 3 (c .before .before .before .before .before .before .named2 .ensures)
+    (c .before .before .before .before .before .before .before .before .named .ensures))))
 
 pub mirroring-of-spec : {M : Type 1} → statement M
 mirroring-of-spec =

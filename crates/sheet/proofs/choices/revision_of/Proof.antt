@@ -1,6 +1,8 @@
 -- `revision_of` meets its contract. Assumes nothing.
 use borrow.Author.Needs.{needs}
-use Rattle.sheet.specs.Choices.{revisionOf}
+use denote.Ref.{now}
+use Rattle.sheet.specs.Choices.{revisionOf, revisions}
+use Rattle.sheet.proofs.Same.{or-later}
 use Rattle.sheet.proofs.choices.revision_of.Statement.{statement}
 use Rattle.sheet.proofs.choices.revision_of.Tie as tie
 
@@ -18,7 +20,10 @@ named-requires-2 c κs = search needs
 
 returns : tie.Need-returns
 unfolding revisionOf
-returns c = cc
+returns c =
+    let N = now (c .before .before .before .before .before .args .cell) in
+    or-later revisions N 0 (c .named2 .ensures)
+    (c .before .before .named .ensures)
 
 pub revision-of-spec : {M : Type 1} → statement M
 revision-of-spec =
