@@ -49,9 +49,9 @@ fn put_place(out: &mut [u8; ROOM], len: usize, begin: u32) -> usize {
     put(out, len, glyph(begin % 10))
 }
 
-// A blank and a decimal number.
-pub fn put_decimal(out: &mut [u8; ROOM], len: usize, n: u32) -> usize {
-    let mut l = put(out, len, b' ');
+// A decimal number.
+pub fn put_number(out: &mut [u8; ROOM], len: usize, n: u32) -> usize {
+    let mut l = len;
     if n >= 1000 {
         l = put_place(out, l, n / 1_000_000_000);
         l = put_place(out, l, n / 100_000_000);
@@ -64,6 +64,12 @@ pub fn put_decimal(out: &mut [u8; ROOM], len: usize, n: u32) -> usize {
     l = put_place(out, l, n / 100);
     l = put_place(out, l, n / 10);
     put(out, l, glyph(n % 10))
+}
+
+// A blank and a decimal number.
+pub fn put_decimal(out: &mut [u8; ROOM], len: usize, n: u32) -> usize {
+    let l = put(out, len, b' ');
+    put_number(out, l, n)
 }
 
 // The same for a number of 8 bits.
@@ -123,12 +129,4 @@ pub fn put_flag(out: &mut [u8; ROOM], len: usize, flag: bool) -> usize {
 
 pub fn put_line_end(out: &mut [u8; ROOM], len: usize) -> usize {
     put(out, len, b'\n')
-}
-
-// The bits of a sum or a level, which are all below 64. A NaN's bits can't be asked for, and it is below nothing.
-pub fn bits(x: f32) -> u32 {
-    if x < 64.0 {
-        return f32::to_bits(x);
-    }
-    0
 }

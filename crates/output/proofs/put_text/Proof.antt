@@ -2,8 +2,8 @@
 use Prim.Native.Nat.{_≤_, _-_}
 use borrow.Author.Needs.{needs}
 use lib.ListN.{length}
-use Rattle.replay.proofs.output.put_text.Statement.{statement}
-use Rattle.replay.proofs.output.put_text.Tie as tie
+use Rattle.output.proofs.put_text.Statement.{statement}
+use Rattle.output.proofs.put_text.Tie as tie
 
 abbrev Inv-loop : tie.InvT-loop
 Inv-loop out₀ len text n₀ i₀ out n i = i ≤ length text

@@ -1,8 +1,8 @@
 -- `bits` is safe: a number below another is no NaN. Assumes nothing.
 use borrow.Author.Needs.{needs}
 use Rattle.wholes.proofs.Sums.{below-no-nan}
-use Rattle.replay.proofs.output.bits.Statement.{statement}
-use Rattle.replay.proofs.output.bits.Tie as tie
+use Rattle.replay.proofs.bits.bits.Statement.{statement}
+use Rattle.replay.proofs.bits.bits.Tie as tie
 
 float-to-bits-result : tie.Need-float-to-bits-result
 float-to-bits-result c = below-no-nan _ _ (c .if1 .taken)
