@@ -1,6 +1,10 @@
 // The answers of single calls as lines.
-use output::ROOM;
 use crate::bits::bits;
+use audio::Level;
+use banks::banking::Banking;
+use calls::Answer;
+use calls::Call;
+use output::ROOM;
 use output::put;
 use output::put_byte;
 use output::put_decimal;
@@ -9,10 +13,6 @@ use output::put_line_end;
 use output::put_small;
 use output::put_text;
 use output::put_word;
-use audio::Level;
-use banks::banking::Banking;
-use calls::Answer;
-use calls::Call;
 use vrc_irq::VrcIrq;
 use vrc6::Board;
 use vrc6::board::Forecast;

@@ -1,6 +1,11 @@
 // The whole state of a board as five lines.
-use output::ROOM;
 use crate::bits::bits;
+use audio::Audio;
+use banks::banking::Banking;
+use channels::pulse::Pulse;
+use channels::saw::Saw;
+use layout::Page;
+use output::ROOM;
 use output::put;
 use output::put_byte;
 use output::put_decimal;
@@ -10,11 +15,6 @@ use output::put_line_end;
 use output::put_small;
 use output::put_text;
 use output::put_word;
-use audio::Audio;
-use banks::banking::Banking;
-use channels::pulse::Pulse;
-use channels::saw::Saw;
-use layout::Page;
 use vrc_irq::VrcIrq;
 use vrc6::Board;
 

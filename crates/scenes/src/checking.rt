@@ -79,7 +79,13 @@ fn put_clock(out: &mut [u8; ROOM], len: usize, irq: VrcIrq, verdict: Verdict) ->
 }
 
 // The window asked, or only where the interrupt comes.
-fn put_window(out: &mut [u8; ROOM], len: usize, irq: VrcIrq, verdict: Verdict, asked: bool) -> usize {
+fn put_window(
+    out: &mut [u8; ROOM],
+    len: usize,
+    irq: VrcIrq,
+    verdict: Verdict,
+    asked: bool,
+) -> usize {
     if asked {
         let a = put_text(out, len, b"  window: ");
         let b = put_verdict(out, a, verdict);
@@ -102,10 +108,21 @@ fn right_line(scene: Scene, irq: VrcIrq) -> u32 {
 }
 
 // The sweep, if there is an interrupt to come.
-fn sweep_menu(totals: Totals, scene: Scene, irq: VrcIrq, menu: &[u32], out: &mut [u8; ROOM], checked: Checked) -> Totals {
+fn sweep_menu(
+    totals: Totals,
+    scene: Scene,
+    irq: VrcIrq,
+    menu: &[u32],
+    out: &mut [u8; ROOM],
+    checked: Checked,
+) -> Totals {
     let clocks = clock_of(irq);
     if clocks == 0 {
-        let len = put_text(out, checked.len, b"  menu: not swept, as no interrupt is to come\n");
+        let len = put_text(
+            out,
+            checked.len,
+            b"  menu: not swept, as no interrupt is to come\n",
+        );
         return totals.scene(len, checked.right, 0, 0);
     }
     let given = Sweep {
@@ -115,7 +132,12 @@ fn sweep_menu(totals: Totals, scene: Scene, irq: VrcIrq, menu: &[u32], out: &mut
         window: right_line(scene, irq),
     };
     let swept = sweep_clocks(given, clocks, menu, out, checked.len);
-    totals.scene(swept.len, checked.right & (swept.wrong == 0), clocks, swept.wrong)
+    totals.scene(
+        swept.len,
+        checked.right & (swept.wrong == 0),
+        clocks,
+        swept.wrong,
+    )
 }
 
 pub fn check(
@@ -139,7 +161,14 @@ pub fn check(
         return totals.scene(len, right, 0, 0);
     }
     if count <= steps.len() {
-        return sweep_menu(totals, scene, irq, &steps[0..count], out, Checked { right, len });
+        return sweep_menu(
+            totals,
+            scene,
+            irq,
+            &steps[0..count],
+            out,
+            Checked { right, len },
+        );
     }
     totals.scene(len, right, 0, 0)
 }

@@ -14,27 +14,54 @@ pub struct Header {
     pub len: usize,
 }
 
-fn put_named(out: &mut [u8; ROOM], len: usize, before: &[u8], name: &[u8], quoted: bool, behind: &[u8]) -> usize {
+fn put_named(
+    out: &mut [u8; ROOM],
+    len: usize,
+    before: &[u8],
+    name: &[u8],
+    quoted: bool,
+    behind: &[u8],
+) -> usize {
     let a = put_text(out, len, before);
     let b = put_cell(out, a, name, quoted);
     put_text(out, b, behind)
 }
 
 // Takes a header cell as cell number `cells`, from 1.
-fn take_name(header: Header, columns: &mut [usize; 9], out: &mut [u8; ROOM], name: &[u8], quoted: bool) -> Header {
+fn take_name(
+    header: Header,
+    columns: &mut [usize; 9],
+    out: &mut [u8; ROOM],
+    name: &[u8],
+    quoted: bool,
+) -> Header {
     let mut next = header;
     let column = column_of(name) as usize;
     if column < 9 {
         if columns[column] != 0 {
             next.good = false;
-            next.len = put_named(out, header.len, b"row 1: two columns are named '", name, quoted, b"'\n");
+            next.len = put_named(
+                out,
+                header.len,
+                b"row 1: two columns are named '",
+                name,
+                quoted,
+                b"'\n",
+            );
             return next;
         }
         columns[column] = header.cells;
         return next;
     }
     if name.len() > 0 {
-        next.len = put_named(out, header.len, b"row 1: the column '", name, quoted, b"' is not used\n");
+        next.len = put_named(
+            out,
+            header.len,
+            b"row 1: the column '",
+            name,
+            quoted,
+            b"' is not used\n",
+        );
     }
     next
 }
@@ -51,7 +78,12 @@ fn header_start(text: &[u8]) -> usize {
 }
 
 // The columns of cells 1, 2, ..; 0 for a column that the sheet does not have.
-pub fn read_header(text: &[u8], columns: &mut [usize; 9], out: &mut [u8; ROOM], len: usize) -> Header {
+pub fn read_header(
+    text: &[u8],
+    columns: &mut [usize; 9],
+    out: &mut [u8; ROOM],
+    len: usize,
+) -> Header {
     let mut header = Header {
         next: header_start(text),
         cells: 0,
@@ -69,7 +101,12 @@ pub fn read_header(text: &[u8], columns: &mut [usize; 9], out: &mut [u8; ROOM], 
         header = take_name(header, columns, out, &text[from..to], cell.quoted);
         if cell.wrong != 0 {
             header.good = false;
-            header.len = put_row_fault(out, header.len, 1, b"a quote is not closed, or something stands behind it");
+            header.len = put_row_fault(
+                out,
+                header.len,
+                1,
+                b"a quote is not closed, or something stands behind it",
+            );
         }
         if cell.last {
             return header;

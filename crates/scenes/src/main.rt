@@ -1,4 +1,4 @@
-// Plays a sheet of scenes: the file that its argument names, or standard input. Each scene's letters and window are checked,
+// Plays sheets of scenes: the files that its arguments name, or standard input. Each scene's letters and window are checked,
 // and its menu is played at every clock up to the interrupt (docs/SCENES.md).
 mod checking;
 mod faults;
@@ -51,11 +51,24 @@ fn play(fd: i32) {
 fn play_file(path: &[u8]) {
     let fd = os::open_read(path);
     if fd < 0 {
-        os::fail(b"the sheet can't be opened");
+        os::fail(path);
         return;
     }
     play(fd);
     libc::close(fd);
+}
+
+// The sheet that argument i names. Where there are several, its name stands above what is printed of it.
+fn play_argument(i: usize, several: bool) {
+    let mut space = io::buffer();
+    let path: &mut [u8] = &mut space;
+    let n = os::arg(i, path);
+    let all = &path[..];
+    if several {
+        io::write_all(STDOUT_FILENO, &all[0..n]);
+        io::write_all(STDOUT_FILENO, b"\n");
+    }
+    play_file(&all[0..n]);
 }
 
 fn main() {
@@ -64,13 +77,9 @@ fn main() {
         play(STDIN_FILENO);
         return;
     }
-    let mut space = [0u8; 4096];
-    let path: &mut [u8] = &mut space;
-    let n = os::arg(1, path);
-    let all = &path[..];
-    if count == 2 {
-        play_file(&all[0..n]);
-        return;
+    let mut i: usize = 1;
+    while i < count {
+        play_argument(i, count > 2);
+        i += 1;
     }
-    io::write_all(STDOUT_FILENO, b"the only argument is the sheet's name\n");
 }

@@ -85,7 +85,13 @@ fn at_end(layout: MemoryLayout, board: Board, refusal: u8) -> Ended {
     }
 }
 
-fn play_on(scene: Scene, layout: MemoryLayout, fixed: &[u8], changing: &mut [u8], codes: &[u32; MOST_STEPS]) -> Ended {
+fn play_on(
+    scene: Scene,
+    layout: MemoryLayout,
+    fixed: &[u8],
+    changing: &mut [u8],
+    codes: &[u32; MOST_STEPS],
+) -> Ended {
     let mirroring = (scene.mirroring % 256) as u8;
     let revision = scene.revision_b as u8;
     let created = create_numbered(layout, mirroring, revision, fixed, &*changing);
@@ -102,7 +108,12 @@ fn none() -> Ended {
 }
 
 // PRG RAM and CIRAM are those of layout S. The buffers have room for every layout, so both tests hold.
-pub fn play_writes(scene: Scene, fixed: &[u8], changing: &mut [u8], codes: &[u32; MOST_STEPS]) -> Ended {
+pub fn play_writes(
+    scene: Scene,
+    fixed: &[u8],
+    changing: &mut [u8],
+    codes: &[u32; MOST_STEPS],
+) -> Ended {
     let layout = MemoryLayout {
         prg_rom: scene.prg,
         chr: scene.chr,

@@ -46,10 +46,20 @@ fn faulty(value: u32, len: usize) -> Single {
 }
 
 // A decimal number up to a limit.
-fn number_cell(out: &mut [u8; ROOM], len: usize, at: Place, word: &[u8], none: u32, limit: u32) -> Single {
+fn number_cell(
+    out: &mut [u8; ROOM],
+    len: usize,
+    at: Place,
+    word: &[u8],
+    none: u32,
+    limit: u32,
+) -> Single {
     match in_base(word, 10, limit) {
         Number::Value(n) => good(n, len),
-        Number::NoNumber => faulty(none, put_fault(out, len, at, word, b" is no decimal number")),
+        Number::NoNumber => faulty(
+            none,
+            put_fault(out, len, at, word, b" is no decimal number"),
+        ),
         Number::TooLarge => faulty(none, put_fault(out, len, at, word, b" is too large")),
     }
 }
@@ -67,7 +77,10 @@ fn mirroring_cell(out: &mut [u8; ROOM], len: usize, at: Place, word: &[u8]) -> S
     if n < 5 {
         return good(n as u32, len);
     }
-    faulty(0, put_fault(out, len, at, word, b" is no mirroring: V, H, A, B or 4"))
+    faulty(
+        0,
+        put_fault(out, len, at, word, b" is no mirroring: V, H, A, B or 4"),
+    )
 }
 
 fn word_cell(out: &mut [u8; ROOM], len: usize, at: Place, word: &[u8], none: u32) -> Single {
@@ -109,7 +122,10 @@ fn single_cell(
             }
             let more = next_word(cell, end);
             if more.from != more.to {
-                return faulty(none, put_fault(out, len, at, cell, b" is more than one word"));
+                return faulty(
+                    none,
+                    put_fault(out, len, at, cell, b" is more than one word"),
+                );
             }
             return word_cell(out, len, at, &cell[begin..end], none);
         }
@@ -117,9 +133,14 @@ fn single_cell(
     good(none, len)
 }
 
-
 // The cells of one word.
-fn read_singles(text: &[u8], spans: &[usize; 27], out: &mut [u8; ROOM], given: Scene, row: u32) -> Scene {
+fn read_singles(
+    text: &[u8],
+    spans: &[usize; 27],
+    out: &mut [u8; ROOM],
+    given: Scene,
+    row: u32,
+) -> Scene {
     let mut scene = given;
     let prg = single_cell(text, spans, out, scene.len, row, PRG, given.prg);
     let chr = single_cell(text, spans, out, prg.len, row, CHR, given.chr);

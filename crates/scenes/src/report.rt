@@ -82,7 +82,14 @@ fn put_moment(out: &mut [u8; ROOM], len: usize, name: &[u8], k: u32, verdict: Ve
 }
 
 // The first wrong moment and the worst.
-pub fn put_worst(out: &mut [u8; ROOM], len: usize, first: u32, of_first: Verdict, worst: u32, of_worst: Verdict) -> usize {
+pub fn put_worst(
+    out: &mut [u8; ROOM],
+    len: usize,
+    first: u32,
+    of_first: Verdict,
+    worst: u32,
+    of_worst: Verdict,
+) -> usize {
     let a = put_moment(out, len, b"  first wrong at clock ", first, of_first);
     put_moment(out, a, b"  worst at clock ", worst, of_worst)
 }

@@ -66,18 +66,42 @@ fn keep(spans: &mut [usize; 27], columns: &[usize; 9], number: usize, cell: Cell
 fn put_wrong(out: &mut [u8; ROOM], len: usize, row: u32, column: usize, wrong: u8) -> usize {
     if column < 9 {
         if wrong == UNCLOSED {
-            return put_cell_fault(out, len, row, column, b"a quote is never closed, so the sheet ends here");
+            return put_cell_fault(
+                out,
+                len,
+                row,
+                column,
+                b"a quote is never closed, so the sheet ends here",
+            );
         }
-        return put_cell_fault(out, len, row, column, b"something stands behind the closing quote");
+        return put_cell_fault(
+            out,
+            len,
+            row,
+            column,
+            b"something stands behind the closing quote",
+        );
     }
     if wrong == UNCLOSED {
-        return put_row_fault(out, len, row, b"a quote is never closed, so the sheet ends here");
+        return put_row_fault(
+            out,
+            len,
+            row,
+            b"a quote is never closed, so the sheet ends here",
+        );
     }
     put_row_fault(out, len, row, b"something stands behind a closing quote")
 }
 
 // Takes the next cell.
-fn take(given: Row, spans: &mut [usize; 27], columns: &[usize; 9], out: &mut [u8; ROOM], number: u32, cell: Cell) -> Row {
+fn take(
+    given: Row,
+    spans: &mut [usize; 27],
+    columns: &[usize; 9],
+    out: &mut [u8; ROOM],
+    number: u32,
+    cell: Cell,
+) -> Row {
     let mut row = given;
     row.next = cell.next;
     row.cells = std::num::wrapping_add_usize(given.cells, 1);

@@ -72,7 +72,16 @@ fn play_cells(
     let mut writes = [0u32; MOST_STEPS];
     let mut menu = [0u32; MOST_STEPS];
     let mut asked = [0u32; 8];
-    let scene = read_scene(text, spans, &mut writes, &mut menu, &mut asked, out, totals.len, totals.row);
+    let scene = read_scene(
+        text,
+        spans,
+        &mut writes,
+        &mut menu,
+        &mut asked,
+        out,
+        totals.len,
+        totals.row,
+    );
     if !scene.good {
         return totals.bad_row(scene.len);
     }
@@ -112,7 +121,15 @@ fn play_row(
     out: &mut [u8; ROOM],
 ) -> Played {
     let mut spans = [0usize; 27];
-    let row = read_row(text, start, columns, &mut spans, out, totals.len, totals.row);
+    let row = read_row(
+        text,
+        start,
+        columns,
+        &mut spans,
+        out,
+        totals.len,
+        totals.row,
+    );
     let next = row.next;
     if !row.good {
         let totals = totals.bad_row(row.len);
@@ -135,21 +152,40 @@ fn play_row(
     }
 }
 
-fn finish(totals: Totals, out: &mut [u8; ROOM]) {
-    let a = put_number(out, totals.len, totals.scenes);
-    let b = put_text(out, a, b" scenes, ");
-    let c = put_number(out, b, totals.right);
-    let d = put_text(out, c, b" right, ");
-    let e = put_number(out, d, totals.moments);
-    let f = put_text(out, e, b" moments swept, ");
-    let g = put_number(out, f, totals.wrong);
-    let h = put_text(out, g, b" wrong\n");
-    let i = put_number(out, h, totals.bad);
-    let j = put_text(out, i, b" bad rows\n");
-    flush(out, j);
+// A number and what it counts, in the singular for 1.
+fn put_count(out: &mut [u8; ROOM], len: usize, n: u32, one: &[u8], many: &[u8]) -> usize {
+    let a = put_number(out, len, n);
+    if n == 1 {
+        return put_text(out, a, one);
+    }
+    put_text(out, a, many)
 }
 
-fn play_rows(header: Header, columns: &[usize; 9], text: &[u8], fixed: &[u8], changing: &mut [u8], out: &mut [u8; ROOM]) {
+fn finish(totals: Totals, out: &mut [u8; ROOM]) {
+    let a = put_count(out, totals.len, totals.scenes, b" scene, ", b" scenes, ");
+    let b = put_number(out, a, totals.right);
+    let c = put_text(out, b, b" right, ");
+    let d = put_count(
+        out,
+        c,
+        totals.moments,
+        b" moment swept, ",
+        b" moments swept, ",
+    );
+    let e = put_number(out, d, totals.wrong);
+    let f = put_text(out, e, b" wrong\n");
+    let g = put_count(out, f, totals.bad, b" bad row\n", b" bad rows\n");
+    flush(out, g);
+}
+
+fn play_rows(
+    header: Header,
+    columns: &[usize; 9],
+    text: &[u8],
+    fixed: &[u8],
+    changing: &mut [u8],
+    out: &mut [u8; ROOM],
+) {
     let mut totals = Totals::new(header.len);
     let mut at = header.next;
     let mut left = text.len();
@@ -159,7 +195,16 @@ fn play_rows(header: Header, columns: &[usize; 9], text: &[u8], fixed: &[u8], ch
             finish(totals, out);
             return;
         }
-        let played = play_row(totals.next_row(), header, columns, text, at, fixed, changing, out);
+        let played = play_row(
+            totals.next_row(),
+            header,
+            columns,
+            text,
+            at,
+            fixed,
+            changing,
+            out,
+        );
         totals = played.totals;
         at = played.next;
     }
@@ -170,6 +215,11 @@ fn play_rows(header: Header, columns: &[usize; 9], text: &[u8], fixed: &[u8], ch
 fn will_do(header: Header, columns: &[usize; 9], text: &[u8], out: &mut [u8; ROOM]) -> bool {
     if MOST_BYTES < text.len() {
         let len = put_text(out, header.len, b"the sheet is longer than 2097152 bytes\n");
+        flush(out, len);
+        return false;
+    }
+    if text.len() == 0 {
+        let len = put_text(out, header.len, b"the sheet is empty\n");
         flush(out, len);
         return false;
     }

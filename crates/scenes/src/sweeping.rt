@@ -108,7 +108,14 @@ impl Swept {
         let last = std::num::wrapping_sub_u32(clocks, 1);
         self.len = put_run(out, self.len, self.from, last, self.of_run);
         if self.wrong != 0 {
-            self.len = put_worst(out, self.len, self.first, self.of_first, self.worst, self.of_worst);
+            self.len = put_worst(
+                out,
+                self.len,
+                self.first,
+                self.of_first,
+                self.worst,
+                self.of_worst,
+            );
         }
         self
     }
@@ -132,7 +139,13 @@ fn mark(bar: &mut [u8; 64], k: u32, clocks: u32, mark: u8) {
 }
 
 // Plays the menu at each clock. The counter goes on by a clock from moment to moment.
-pub fn sweep_clocks(given: Sweep, clocks: u32, menu: &[u32], out: &mut [u8; ROOM], len: usize) -> Swept {
+pub fn sweep_clocks(
+    given: Sweep,
+    clocks: u32,
+    menu: &[u32],
+    out: &mut [u8; ROOM],
+    len: usize,
+) -> Swept {
     let mut bar = [0u8; 64];
     let mut irq = given.irq;
     let mut swept = Swept::new(given.verdict(irq, 0, menu), len);

@@ -62,7 +62,13 @@ fn put_pair_fault(out: &mut [u8; ROOM], len: usize, at: Place, word: &[u8], wron
 }
 
 // Keeps a step as its number, if it is right and there is room.
-fn take_step(given: Words, codes: &mut [u32; MOST_STEPS], out: &mut [u8; ROOM], at: Place, word: &[u8]) -> Words {
+fn take_step(
+    given: Words,
+    codes: &mut [u32; MOST_STEPS],
+    out: &mut [u8; ROOM],
+    at: Place,
+    word: &[u8],
+) -> Words {
     let step = step_of(word);
     let code = code_of(step);
     match step {
@@ -78,14 +84,26 @@ fn take_step(given: Words, codes: &mut [u32; MOST_STEPS], out: &mut [u8; ROOM], 
 }
 
 // Keeps a pair's bank for its slot.
-fn take_pair(given: Words, banks: &mut [u32; 8], out: &mut [u8; ROOM], at: Place, word: &[u8]) -> Words {
+fn take_pair(
+    given: Words,
+    banks: &mut [u32; 8],
+    out: &mut [u8; ROOM],
+    at: Place,
+    word: &[u8],
+) -> Words {
     match pair_of(word) {
         Pair::Wrong(wrong) => given.faulty(put_pair_fault(out, given.len, at, word, wrong)),
         Pair::Letter(slot, bank) => {
             let i = slot as usize;
             if i < 8 {
                 if banks[i] != ANY_BANK {
-                    return given.faulty(put_fault(out, given.len, at, word, b" is a second bank for its slot"));
+                    return given.faulty(put_fault(
+                        out,
+                        given.len,
+                        at,
+                        word,
+                        b" is a second bank for its slot",
+                    ));
                 }
                 banks[i] = bank;
             }

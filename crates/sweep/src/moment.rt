@@ -1,9 +1,9 @@
 // The counter at a moment, what a handler's steps do to it, and when the interrupt comes.
+use engine::writes::irq_written;
 use sheet::Step;
 use sheet::step::step_coded;
 use vrc_irq::IrqForecast;
 use vrc_irq::VrcIrq;
-use engine::writes::irq_written;
 ghost use mathlib.Core.Path.{_≡_};
 ghost use Rattle.vrc_irq.specs.Board.{step, line};
 ghost use Rattle.vrc_irq.specs.Clocks.{irqAfter};

@@ -1,8 +1,8 @@
 // Which bank a slot of the picture side shows.
 use layout::MemoryLayout;
 use layout::Page;
-use layout::Src;
 use layout::Region;
+use layout::Src;
 ghost use mathlib.Core.Path.{_≡_};
 ghost use Rattle.sweep.specs.Shown.{bankAt, bankShown};
 
