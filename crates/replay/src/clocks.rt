@@ -1,5 +1,5 @@
 // Many clocks at once.
-use crate::output::bits;
+use crate::bits::bits;
 use audio::Audio;
 use engine::clock_engine;
 use script::fnv::FNV_START;

@@ -1,13 +1,13 @@
 // A board is created on buffers that a seed fills.
 use crate::answers::put_refused;
-use crate::output::ROOM;
-use crate::output::put;
-use crate::output::put_decimal;
-use crate::output::put_line_end;
 use crate::session::Session;
 use banks::banking::Mirroring;
 use banks::banking::Revision;
 use layout::MemoryLayout;
+use output::ROOM;
+use output::put;
+use output::put_decimal;
+use output::put_line_end;
 use script::Setup;
 use script::fill::fill;
 use vrc6::Board;

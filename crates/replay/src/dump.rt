@@ -1,20 +1,20 @@
 // The whole state of a board as five lines.
-use crate::output::ROOM;
-use crate::output::bits;
-use crate::output::put;
-use crate::output::put_byte;
-use crate::output::put_decimal;
-use crate::output::put_flag;
-use crate::output::put_hex;
-use crate::output::put_line_end;
-use crate::output::put_small;
-use crate::output::put_text;
-use crate::output::put_word;
+use crate::bits::bits;
 use audio::Audio;
 use banks::banking::Banking;
 use channels::pulse::Pulse;
 use channels::saw::Saw;
 use layout::Page;
+use output::ROOM;
+use output::put;
+use output::put_byte;
+use output::put_decimal;
+use output::put_flag;
+use output::put_hex;
+use output::put_line_end;
+use output::put_small;
+use output::put_text;
+use output::put_word;
 use vrc_irq::VrcIrq;
 use vrc6::Board;
 

@@ -1,11 +1,11 @@
 // Plays the script on standard input on the board, and prints an answer for each call, as the Rust's driver does. With the
 // argument --full a dump follows each call.
 mod answers;
+mod bits;
 mod clocks;
 mod commands;
 mod creation;
 mod dump;
-mod output;
 mod run;
 mod session;
 

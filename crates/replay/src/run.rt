@@ -1,13 +1,13 @@
 // The input from its start to its end, a line at a time.
 use crate::commands::play_line;
-use crate::output::ROOM;
-use crate::output::flush;
-use crate::output::put_decimal;
-use crate::output::put_text;
 use crate::session::NO_BOARD;
 use crate::session::Session;
 use crate::session::TOO_LONG;
 use libc::STDIN_FILENO;
+use output::ROOM;
+use output::flush;
+use output::put_decimal;
+use output::put_text;
 use script::arguments::MISSING;
 use script::arguments::NO_CHOICE;
 use script::arguments::NO_DECIMAL;

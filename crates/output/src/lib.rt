@@ -1,0 +1,132 @@
+// Text into an output buffer, which is written out when it is full. Each function takes how many bytes the buffer holds,
+// and hands back how many it holds then.
+use libc::STDOUT_FILENO;
+
+pub const ROOM: usize = 65536;
+
+// Writes out what the buffer holds.
+pub fn flush(out: &[u8; ROOM], len: usize) {
+    let all: &[u8] = out;
+    if len <= all.len() {
+        io::write_all(STDOUT_FILENO, &all[0..len]);
+    }
+}
+
+pub fn put(out: &mut [u8; ROOM], len: usize, byte: u8) -> usize {
+    if len < ROOM {
+        out[len] = byte;
+        return len + 1;
+    }
+    flush(out, len);
+    out[0] = byte;
+    1
+}
+
+pub fn put_text(out: &mut [u8; ROOM], len: usize, text: &[u8]) -> usize {
+    let mut n = len;
+    let mut i: usize = 0;
+    while i < text.len() {
+        n = put(out, n, text[i]);
+        i += 1;
+    }
+    n
+}
+
+// The digit of a number below 16, in lower case.
+fn glyph(digit: u32) -> u8 {
+    let d = (digit % 16) as u8;
+    if d < 10 {
+        return b'0' + d;
+    }
+    b'a' + (d - 10)
+}
+
+// The last decimal digit of what a number begins with, and nothing where that is 0.
+fn put_place(out: &mut [u8; ROOM], len: usize, begin: u32) -> usize {
+    if begin == 0 {
+        return len;
+    }
+    put(out, len, glyph(begin % 10))
+}
+
+// A decimal number.
+pub fn put_number(out: &mut [u8; ROOM], len: usize, n: u32) -> usize {
+    let mut l = len;
+    if n >= 1000 {
+        l = put_place(out, l, n / 1_000_000_000);
+        l = put_place(out, l, n / 100_000_000);
+        l = put_place(out, l, n / 10_000_000);
+        l = put_place(out, l, n / 1_000_000);
+        l = put_place(out, l, n / 100_000);
+        l = put_place(out, l, n / 10_000);
+        l = put_place(out, l, n / 1000);
+    }
+    l = put_place(out, l, n / 100);
+    l = put_place(out, l, n / 10);
+    put(out, l, glyph(n % 10))
+}
+
+// A blank and a decimal number.
+pub fn put_decimal(out: &mut [u8; ROOM], len: usize, n: u32) -> usize {
+    let l = put(out, len, b' ');
+    put_number(out, l, n)
+}
+
+// The same for a number of 8 bits.
+pub fn put_small(out: &mut [u8; ROOM], len: usize, n: u8) -> usize {
+    put_decimal(out, len, n as u32)
+}
+
+// The last hexadecimal digit of what a number begins with, and nothing where that is 0.
+fn put_hex_place(out: &mut [u8; ROOM], len: usize, begin: u32) -> usize {
+    if begin == 0 {
+        return len;
+    }
+    put(out, len, glyph(begin))
+}
+
+// A blank and a hexadecimal number.
+pub fn put_hex(out: &mut [u8; ROOM], len: usize, n: u32) -> usize {
+    let mut l = put(out, len, b' ');
+    l = put_hex_place(out, l, n / 0x1000_0000);
+    l = put_hex_place(out, l, n / 0x100_0000);
+    l = put_hex_place(out, l, n / 0x10_0000);
+    l = put_hex_place(out, l, n / 0x1_0000);
+    l = put_hex_place(out, l, n / 0x1000);
+    l = put_hex_place(out, l, n / 0x100);
+    l = put_hex_place(out, l, n / 0x10);
+    put(out, l, glyph(n))
+}
+
+// A blank and two hexadecimal digits.
+pub fn put_byte(out: &mut [u8; ROOM], len: usize, n: u8) -> usize {
+    let a = put(out, len, b' ');
+    let b = put(out, a, glyph((n / 16) as u32));
+    put(out, b, glyph(n as u32))
+}
+
+// A blank and eight hexadecimal digits.
+pub fn put_word(out: &mut [u8; ROOM], len: usize, n: u32) -> usize {
+    let a = put(out, len, b' ');
+    let b = put(out, a, glyph(n / 0x1000_0000));
+    let c = put(out, b, glyph(n / 0x100_0000));
+    let d = put(out, c, glyph(n / 0x10_0000));
+    let e = put(out, d, glyph(n / 0x1_0000));
+    let f = put(out, e, glyph(n / 0x1000));
+    let g = put(out, f, glyph(n / 0x100));
+    let h = put(out, g, glyph(n / 0x10));
+    put(out, h, glyph(n))
+}
+
+// A blank and 1 or 0.
+pub fn put_flag(out: &mut [u8; ROOM], len: usize, flag: bool) -> usize {
+    let a = put(out, len, b' ');
+    if flag {
+        return put(out, a, b'1');
+    }
+    put(out, a, b'0')
+}
+
+pub fn put_line_end(out: &mut [u8; ROOM], len: usize) -> usize {
+    put(out, len, b'\n')
+}

@@ -1,0 +1,58 @@
+-- `read_row` is safe and ends. Assumes nothing.
+use Prim.Native.Nat.{}
+use borrow.Author.Needs.{needs}
+use Rattle.scenes.proofs.row.read_row.Statement.{statement}
+use Rattle.scenes.proofs.row.read_row.Tie as tie
+
+abbrev Inv-loop : tie.InvT-loop
+Inv-loop text start columns spans₀ out₀ len number row₀ left₀ spans out row left = Unit {0}
+
+abbrev μ-loop : tie.MeasureT-loop
+μ-loop text start columns spans₀ out₀ len number row₀ left₀ spans out row left = left
+
+clear-requires : tie.Need-clear-requires Inv-loop μ-loop
+clear-requires c κs = search needs
+
+wrapping-add-usize-requires : tie.Need-wrapping-add-usize-requires Inv-loop μ-loop
+wrapping-add-usize-requires c κs = search needs
+
+loop-holds : tie.Need-loop-holds Inv-loop μ-loop
+loop-holds c = search needs
+
+sub-left : tie.Need-sub-left Inv-loop μ-loop
+sub-left c = search needs
+
+cell-at-requires : tie.Need-cell-at-requires Inv-loop μ-loop
+cell-at-requires c κs = search needs
+
+take-requires : tie.Need-take-requires Inv-loop μ-loop
+take-requires c κs = search needs
+
+returns : tie.Need-returns Inv-loop μ-loop
+returns c = search needs
+
+loop-less : tie.Need-loop-less Inv-loop μ-loop
+loop-less c = search needs
+
+loop-again : tie.Need-loop-again Inv-loop μ-loop
+loop-again c = search needs
+
+returns-2 : tie.Need-returns-2 Inv-loop μ-loop
+returns-2 c = search needs
+
+pub read-row-spec : {M : Type 1} → statement M
+read-row-spec =
+    tie.close
+    (tie.spec
+    Inv-loop
+    μ-loop
+    clear-requires
+    wrapping-add-usize-requires
+    loop-holds
+    sub-left
+    cell-at-requires
+    take-requires
+    returns
+    loop-less
+    loop-again
+    returns-2)

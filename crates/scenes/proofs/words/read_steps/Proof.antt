@@ -1,0 +1,85 @@
+-- `read_steps` is safe and ends. Assumes nothing.
+use borrow.Author.Needs.{needs}
+use Rattle.scenes.proofs.words.read_steps.Statement.{statement}
+use Rattle.scenes.proofs.words.read_steps.Tie as tie
+
+abbrev Inv-loop : tie.InvT-loop
+Inv-loop text spans codes₀ out₀ len row column words₀ span at₀ end left₀ codes out words at left = Unit {0}
+
+abbrev μ-loop : tie.MeasureT-loop
+μ-loop text spans codes₀ out₀ len row column words₀ span at₀ end left₀ codes out words at left = left
+
+span-of-requires : tie.Need-span-of-requires Inv-loop μ-loop
+span-of-requires c κs = search needs
+
+returns : tie.Need-returns Inv-loop μ-loop
+returns c = search needs
+
+loop-holds : tie.Need-loop-holds Inv-loop μ-loop
+loop-holds c = search needs
+
+sub-left : tie.Need-sub-left Inv-loop μ-loop
+sub-left c = search needs
+
+sub-next-word : tie.Need-sub-next-word Inv-loop μ-loop
+sub-next-word c = search needs
+
+part-next-word-start : tie.Need-part-next-word-start Inv-loop μ-loop
+part-next-word-start c = search needs
+
+part-next-word-end : tie.Need-part-next-word-end Inv-loop μ-loop
+part-next-word-end c = search needs
+
+next-word-requires : tie.Need-next-word-requires Inv-loop μ-loop
+next-word-requires c κs = search needs
+
+put-many-requires : tie.Need-put-many-requires Inv-loop μ-loop
+put-many-requires c κs = search needs
+
+returns-2 : tie.Need-returns-2 Inv-loop μ-loop
+returns-2 c = search needs
+
+sub-take-step : tie.Need-sub-take-step Inv-loop μ-loop
+sub-take-step c = search needs
+
+part-take-step-start : tie.Need-part-take-step-start Inv-loop μ-loop
+part-take-step-start c = search needs
+
+part-take-step-end : tie.Need-part-take-step-end Inv-loop μ-loop
+part-take-step-end c = search needs
+
+take-step-requires : tie.Need-take-step-requires Inv-loop μ-loop
+take-step-requires c κs = search needs
+
+loop-less : tie.Need-loop-less Inv-loop μ-loop
+loop-less c = search needs
+
+loop-again : tie.Need-loop-again Inv-loop μ-loop
+loop-again c = search needs
+
+returns-3 : tie.Need-returns-3 Inv-loop μ-loop
+returns-3 c = search needs
+
+pub read-steps-spec : {M : Type 1} → statement M
+read-steps-spec =
+    tie.close
+    (tie.spec
+    Inv-loop
+    μ-loop
+    span-of-requires
+    returns
+    loop-holds
+    sub-left
+    sub-next-word
+    part-next-word-start
+    part-next-word-end
+    next-word-requires
+    put-many-requires
+    returns-2
+    sub-take-step
+    part-take-step-start
+    part-take-step-end
+    take-step-requires
+    loop-less
+    loop-again
+    returns-3)

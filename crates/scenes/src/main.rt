@@ -1,0 +1,85 @@
+// Plays sheets of scenes: the files that its arguments name, or standard input. Each scene's letters and window are checked,
+// and its menu is played at every clock up to the interrupt (docs/SCENES.md).
+mod checking;
+mod faults;
+mod header;
+mod playing;
+mod reading;
+mod report;
+mod row;
+mod run;
+mod scene;
+mod sweeping;
+mod totals;
+mod words;
+
+use crate::run::run;
+use libc::STDIN_FILENO;
+use libc::STDOUT_FILENO;
+
+// One byte more than a sheet may have.
+const SHEET: usize = 2097153;
+
+fn read_sheet(fd: i32, text: &mut [u8; SHEET]) -> usize {
+    let all: &mut [u8] = text;
+    io::read_full(fd, all)
+}
+
+fn run_sheet(
+    fixed: &[u8; 525312],
+    changing: &mut [u8; 274432],
+    text: &[u8; SHEET],
+    n: usize,
+    out: &mut [u8; 65536],
+) {
+    let all: &[u8] = text;
+    if n <= all.len() {
+        run(fixed, changing, &all[0..n], out);
+    }
+}
+
+// The buffers have the largest sizes that a layout can ask.
+fn play(fd: i32) {
+    let mut fixed = [0u8; 525312];
+    let mut changing = [0u8; 274432];
+    let mut text = [0u8; SHEET];
+    let mut out = [0u8; 65536];
+    let n = read_sheet(fd, &mut text);
+    run_sheet(&fixed, &mut changing, &text, n, &mut out);
+}
+
+fn play_file(path: &[u8]) {
+    let fd = os::open_read(path);
+    if fd < 0 {
+        os::fail(path);
+        return;
+    }
+    play(fd);
+    libc::close(fd);
+}
+
+// The sheet that argument i names. Where there are several, its name stands above what is printed of it.
+fn play_argument(i: usize, several: bool) {
+    let mut space = io::buffer();
+    let path: &mut [u8] = &mut space;
+    let n = os::arg(i, path);
+    let all = &path[..];
+    if several {
+        io::write_all(STDOUT_FILENO, &all[0..n]);
+        io::write_all(STDOUT_FILENO, b"\n");
+    }
+    play_file(&all[0..n]);
+}
+
+fn main() {
+    let count = os::arg_count();
+    if count < 2 {
+        play(STDIN_FILENO);
+        return;
+    }
+    let mut i: usize = 1;
+    while i < count {
+        play_argument(i, count > 2);
+        i += 1;
+    }
+}

@@ -1,0 +1,30 @@
+-- The pairs of the letters' cell, as its words write them (docs/SCENES.md). Assumes nothing.
+use mathlib.Core.Bool.{cond}
+use mathlib.Core.List.{List}
+use Prim.Native.Nat.{ℕ}
+use lib.Dec.{eqb}
+use lib.ListN.{length}
+use Rattle.script.specs.declared.number.Number.{Number}
+use Rattle.script.specs.declared.number.Number.the-variants.{Value, NoNumber, TooLarge}
+use Rattle.script.specs.Numbers.{numberOf}
+use Rattle.sheet.specs.Marks.{fromMark, beforeMark, behindMark}
+use Rattle.sheet.specs.declared.letters.Pair.{Pair}
+use Rattle.sheet.specs.declared.letters.Pair.the-variants.{Letter, Wrong}
+
+-- the number behind `:`, with the slot before it
+abbrev pub bankFrom : (slot : ℕ) → Number → Pair
+bankFrom slot (Value n) = Letter slot n
+bankFrom slot NoNumber = Wrong 3
+bankFrom slot TooLarge = Wrong 3
+
+-- the two numbers around `:`
+abbrev pub pairFrom : (slot bank : Number) → Pair
+pairFrom (Value n) bank = bankFrom n bank
+pairFrom NoNumber bank = Wrong 2
+pairFrom TooLarge bank = Wrong 2
+
+-- what a word says: a slot of 0 to 7 and a bank of 0 to 255, both decimal, or what is wrong with it
+unfoldable pub pairOf : List ℕ → Pair
+pairOf w =
+    cond (eqb (length (fromMark 58 w)) 0) (Wrong 1)
+    (pairFrom (numberOf 10 7 (beforeMark 58 w)) (numberOf 10 255 (behindMark 58 w)))

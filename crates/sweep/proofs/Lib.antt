@@ -1,0 +1,4 @@
+pub mod Columns
+pub mod Counting
+pub mod Handling
+pub mod Screen

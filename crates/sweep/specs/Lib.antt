@@ -1,0 +1,5 @@
+pub mod Bars
+pub mod Lines
+pub mod Moments
+pub mod Shown
+pub mod Verdicts

@@ -1,0 +1,10 @@
+// When the interrupt comes if the menu's handler runs at some moment, on which line that is, and what the picture side shows.
+pub mod bar;
+pub mod lines;
+pub mod moment;
+pub mod shown;
+pub mod verdict;
+
+pub use moment::Came;
+pub use moment::Moment;
+pub use verdict::Verdict;
