@@ -1,4 +1,5 @@
 pub mod Bars
+pub mod Laws
 pub mod Lines
 pub mod Moments
 pub mod Shown
