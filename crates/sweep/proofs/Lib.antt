@@ -1,3 +1,4 @@
+pub mod Boarded
 pub mod Columns
 pub mod Counting
 pub mod Handling

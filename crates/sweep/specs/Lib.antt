@@ -1,4 +1,5 @@
 pub mod Bars
+pub mod Counter
 pub mod Laws
 pub mod Lines
 pub mod Moments
