@@ -1,6 +1,6 @@
 -- A call's next counter on the board. Assumes nothing.
 use mathlib.Core.Path.{_≡_, refl, ap, _∙_}
-use mathlib.Core.Bool.{Bool, true}
+use mathlib.Core.Bool.{true}
 use Prim.Native.Nat.{ℕ}
 use Rattle.basics.specs.Refusals.{unless}
 use Rattle.paging.specs.Paging.{picture}
@@ -16,7 +16,6 @@ use Rattle.vrc6.specs.declared.board.Board.{Board}
 use Rattle.vrc6.specs.Boards.{State}
 use Rattle.vrc6.specs.Checks.{engineRefusal, memoryRefusal, cpuWriteRefusal}
 use Rattle.vrc6.specs.Calls.{registerWritten, cpuWritten, pictureWritten, clocked, wasReset}
-use Rattle.calls.specs.declared.Call.{Call}
 use Rattle.calls.specs.declared.Call.the-variants.{CpuRead, CpuWrite, LentCpuWrite, PictureRead, PictureWrite, Clock, LentClock, SoftReset, HardReset, ReadLevel, PageView, ReadForecast}
 use Rattle.sweep.specs.Laws.{Counted, CounterLaw}
 

@@ -1,0 +1,76 @@
+-- The calls that a handler makes on the board, and the clock after which the interrupt is pending (docs/SCENES.md). Assumes nothing.
+use mathlib.Core.Path.{_≡_}
+use mathlib.Core.Bool.{Bool, false, cond}
+use mathlib.Core.List.{List, [], _∷_, _++_}
+use mathlib.Core.Option.{Option, none, some}
+use Prim.Native.Nat.{ℕ, _+_, _≤_, _<_}
+use lib.ListN.{replicate}
+use Rattle.vrc_irq.specs.declared.VrcIrq.{VrcIrq}
+use Rattle.vrc_irq.specs.Board.{step, line}
+use Rattle.vrc_irq.specs.Clocks.{irqAfter}
+use Rattle.calls.specs.declared.Call.{Call}
+use Rattle.calls.specs.declared.Call.the-variants.{CpuRead, CpuWrite, LentCpuWrite, PictureRead, PictureWrite, Clock, LentClock, SoftReset, HardReset, ReadLevel, PageView, ReadForecast}
+use Rattle.vrc6.specs.Boards.{State}
+use Rattle.calls.specs.Lists.{next}
+use Rattle.ledger.specs.Ledger.{event}
+use Rattle.ledger.specs.Demand3.{weight}
+use Rattle.sheet.specs.declared.step.Step.{Step}
+use Rattle.sheet.specs.declared.step.Step.the-variants.{Write, Clocks, Reset, Wrong}
+use Rattle.sheet.specs.Steps.{stepCoded}
+use Rattle.sweep.specs.declared.moment.Came.{Came}
+use Rattle.sweep.specs.declared.moment.Came.the-variants.{Never, On}
+use Rattle.sweep.specs.Moments.{came, due, dueWithin, moment}
+
+-- ---- the calls
+-- of a step
+abbrev pub stepCalls : Step → List Call
+stepCalls (Write a v) = CpuWrite a v ∷ []
+stepCalls (Clocks n) = replicate n Clock
+stepCalls Reset = SoftReset ∷ []
+stepCalls (Wrong n) = []
+
+-- of a handler, its steps given as their numbers
+abbrev pub handlerCalls : List ℕ → List Call
+handlerCalls [] = []
+handlerCalls (code ∷ codes) = stepCalls (stepCoded code) ++ handlerCalls codes
+
+-- of k clocks, then a handler, then m clocks
+abbrev pub runAt : (k : ℕ) → List ℕ → (m : ℕ) → List Call
+runAt k codes m = replicate k Clock ++ (handlerCalls codes ++ replicate m Clock)
+
+-- a call whose byte for a register is a byte
+abbrev pub OfByte : Call → Type 0
+OfByte (CpuRead a) = Unit {0}
+OfByte (CpuWrite a v) = v ≤ 255
+OfByte (LentCpuWrite a v) = v ≤ 255
+OfByte (PictureRead a) = Unit {0}
+OfByte (PictureWrite a v) = Unit {0}
+OfByte Clock = Unit {0}
+OfByte LentClock = Unit {0}
+OfByte SoftReset = Unit {0}
+OfByte HardReset = Unit {0}
+OfByte ReadLevel = Unit {0}
+OfByte (PageView a) = Unit {0}
+OfByte ReadForecast = Unit {0}
+
+-- ---- on the board
+-- the first call after which pending is set: how many clocks there are up to and with it, counted on from n
+abbrev pub risesAt : State → List Call → (n : ℕ) → Option ℕ
+risesAt x [] n = none
+risesAt x (k ∷ ks) n =
+    cond (next x k .board .irq .«irq_pending») (some (n + weight (event k))) (risesAt (next x k) ks (n + weight (event k)))
+
+-- ---- by the counter
+-- pending is clear, and no interrupt is due within k clocks
+pub record Waits (q : VrcIrq) (k : ℕ) : Type 0 where
+  pub clear : q .«irq_pending» ≡ false
+  pub not-yet : dueWithin k (due q) ≡ false
+
+-- what `came_after` says of a handler that runs k clocks after the counter stood so
+abbrev pub cameAt : (revisionB : Bool) → VrcIrq → (k : ℕ) → List ℕ → Came
+cameAt b q k codes = came b codes (moment (irqAfter step line k q) k)
+
+-- what a run of n clocks finds where the interrupt comes so: its clock, if the run gets that far
+abbrev pub Found : Came → (n : ℕ) → Option ℕ → Type 0
+Found Never n r = r ≡ none
+Found (On t) n r = (t ≤ n → r ≡ some t) × (n < t → r ≡ none)
