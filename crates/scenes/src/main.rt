@@ -3,6 +3,7 @@
 mod checking;
 mod faults;
 mod header;
+mod lists;
 mod playing;
 mod reading;
 mod report;
@@ -11,7 +12,6 @@ mod run;
 mod scene;
 mod sweeping;
 mod totals;
-mod words;
 
 use crate::run::run;
 use libc::STDIN_FILENO;

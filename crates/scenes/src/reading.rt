@@ -9,18 +9,18 @@ use crate::faults::REVISION;
 use crate::faults::WINDOW;
 use crate::faults::WRITES;
 use crate::faults::put_fault;
+use crate::lists::read_letters;
+use crate::lists::read_steps;
 use crate::row::span_of;
 use crate::scene::MOST_STEPS;
 use crate::scene::NO_WINDOW;
 use crate::scene::Scene;
-use crate::words::read_letters;
-use crate::words::read_steps;
 use output::ROOM;
-use script::number::Number;
-use script::number::in_base;
-use script::words::next_word;
 use sheet::choices::mirroring_of;
 use sheet::choices::revision_of;
+use words::next_word;
+use words::number::Number;
+use words::number::in_base;
 
 // A cell that holds one word, or none: what it says, or what stands for it.
 pub struct Single {

@@ -10,12 +10,12 @@ use lib.Dec.{eqb, leb}
 use lib.ListN.{length, take, drop, getD, length-drop}
 use lib.Seq.{length-take-le, getD-take, getD-drop}
 use Rattle.basics.proofs.Tests.{either, tested}
-use Rattle.script.specs.declared.number.Number.{Number}
-use Rattle.script.specs.declared.number.Number.the-variants.{NoNumber}
-use Rattle.script.specs.Numbers.{areDigits, limited, numberOf, valueOf}
-use Rattle.script.specs.Places.{Found}
+use Rattle.words.specs.declared.number.Number.{Number}
+use Rattle.words.specs.declared.number.Number.the-variants.{NoNumber}
+use Rattle.words.specs.Numbers.{areDigits, limited, numberOf, valueOf}
+use Rattle.words.specs.Places.{Found}
+use Rattle.words.specs.Words.{fromWord, pastWord, wordOf}
 use Rattle.script.specs.Readings.{Reading, choiceAfter, chosen, fault, following, isLetter, judged, numberAfter, right, wrongAfter}
-use Rattle.script.specs.Words.{fromWord, pastWord, wordOf}
 
 -- a word's length and its first letter, by its places
 module _ (line text : List ℕ) (from to : ℕ) (f : Found line text from to) where

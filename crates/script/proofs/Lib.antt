@@ -1,6 +1,4 @@
-pub mod Digits
 pub mod Filling
 pub mod Followed
 pub mod Rows
 pub mod Said
-pub mod Spans

@@ -1,7 +1,7 @@
 -- The examples, computed. Assumes nothing.
 use mathlib.Core.Path.{refl}
+use Rattle.words.specs.Numbers.{numberOf}
 use Rattle.script.specs.Lines.{addressed, byteWritten, callOf, clockCount, commandOf, created, resetOf}
-use Rattle.script.specs.Numbers.{numberOf}
 use Rattle.script.specs.Readings.{choiceAfter, numberAfter, wrongAfter}
 use Rattle.script.specs.Laws.{Examples}
 

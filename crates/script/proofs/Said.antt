@@ -5,12 +5,12 @@ use Prim.Native.Nat.{ℕ, _-_, _<_}
 use native.Mathlib.Omega.{arith}
 use borrow.Author.Tests.{eq-eqb, ne-eqb}
 use lib.ListN.{drop, getD, length}
+use Rattle.words.specs.Places.{Found}
+use Rattle.words.specs.Words.{fromWord, wordOf}
 use Rattle.script.specs.declared.line.Command.{Command}
 use Rattle.script.specs.declared.line.Command.the-variants.{Nothing, Bad}
 use Rattle.script.specs.Lines.{begun, callOf, commandOf, created, createdFrom, decimalAfter, hexadecimalAfter, largest}
-use Rattle.script.specs.Places.{Found}
 use Rattle.script.specs.Readings.{Reading, choiceAfter}
-use Rattle.script.specs.Words.{fromWord, wordOf}
 use Rattle.script.proofs.Followed.{empty, there, letter, size}
 
 -- a creation from its first arguments, the later ones read on

@@ -6,11 +6,11 @@ use lib.Dec.{eqb}
 use lib.ListN.{length, getD}
 use Rattle.calls.specs.declared.Call.{Call}
 use Rattle.calls.specs.declared.Call.the-variants.{CpuRead, CpuWrite, PictureRead, PictureWrite, SoftReset, HardReset, ReadLevel, PageView, ReadForecast}
+use Rattle.words.specs.Words.{fromWord, pastWord, wordOf}
 use Rattle.script.specs.declared.line.Setup.{Setup}
 use Rattle.script.specs.declared.line.Command.{Command}
 use Rattle.script.specs.declared.line.Command.the-variants.{Nothing, Create, Play, Clocks, Registers, Buffers, Dump, Bad}
 use Rattle.script.specs.Readings.{Reading, choiceAfter, numberAfter, right, wrongAfter}
-use Rattle.script.specs.Words.{fromWord, pastWord, wordOf}
 
 -- the largest 32-bit number
 abbrev pub largest : ℕ

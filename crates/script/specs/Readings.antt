@@ -4,11 +4,11 @@ use mathlib.Core.List.{List}
 use Prim.Native.Nat.{ℕ}
 use lib.Dec.{eqb}
 use lib.ListN.{length, drop, getD}
+use Rattle.words.specs.declared.number.Number.{Number}
+use Rattle.words.specs.declared.number.Number.the-variants.{Value, NoNumber, TooLarge}
+use Rattle.words.specs.Numbers.{numberOf}
+use Rattle.words.specs.Words.{fromWord, pastWord, wordOf}
 use Rattle.script.specs.declared.arguments.Argument.{Argument}
-use Rattle.script.specs.declared.number.Number.{Number}
-use Rattle.script.specs.declared.number.Number.the-variants.{Value, NoNumber, TooLarge}
-use Rattle.script.specs.Numbers.{numberOf}
-use Rattle.script.specs.Words.{fromWord, pastWord, wordOf}
 
 -- an argument: its value, the text behind it, and the number of what is wrong so far, 0 for nothing
 pub record Reading : Type 0 where

@@ -1,7 +1,7 @@
 // A call's arguments, one after the other. What is wrong with one is carried on to the last.
-use crate::number::Number;
-use crate::number::in_base;
-use crate::words::next_word;
+use words::next_word;
+use words::number::Number;
+use words::number::in_base;
 ghost use mathlib.Core.Path.{_≡_};
 ghost use Prim.Native.Nat.{_≤_};
 ghost use lib.ListN.{drop};

@@ -4,8 +4,6 @@ pub mod arguments;
 pub mod fill;
 pub mod fnv;
 pub mod line;
-pub mod number;
-pub mod words;
 
 pub use line::Command;
 pub use line::Setup;

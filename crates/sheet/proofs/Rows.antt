@@ -1,6 +1,6 @@
 -- The examples, computed. Assumes nothing.
 use mathlib.Core.Path.{refl}
-use Rattle.script.specs.Numbers.{numberOf}
+use Rattle.words.specs.Numbers.{numberOf}
 use Rattle.sheet.specs.Cells.{plainCell, quotedCell}
 use Rattle.sheet.specs.Choices.{mirroringOf, revisionOf}
 use Rattle.sheet.specs.Columns.{columnOf}

@@ -5,7 +5,7 @@ use mathlib.Core.List.{List}
 use Prim.Native.Nat.{ℕ, zero, suc, _+_, _-_, _%_}
 use borrow.Author.Tests.{eq-eqb, ne-eqb}
 use lib.ListN.{length, take, drop, getD}
-use Rattle.script.specs.Numbers.{numberOf}
+use Rattle.words.specs.Numbers.{numberOf}
 use Rattle.sheet.specs.declared.letters.Pair.the-variants as pair
 use Rattle.sheet.specs.declared.step.Step.the-variants.{Reset, Wrong}
 use Rattle.sheet.specs.Letters.{pairFrom, pairOf}

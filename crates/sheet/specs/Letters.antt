@@ -4,9 +4,9 @@ use mathlib.Core.List.{List}
 use Prim.Native.Nat.{ℕ}
 use lib.Dec.{eqb}
 use lib.ListN.{length}
-use Rattle.script.specs.declared.number.Number.{Number}
-use Rattle.script.specs.declared.number.Number.the-variants.{Value, NoNumber, TooLarge}
-use Rattle.script.specs.Numbers.{numberOf}
+use Rattle.words.specs.declared.number.Number.{Number}
+use Rattle.words.specs.declared.number.Number.the-variants.{Value, NoNumber, TooLarge}
+use Rattle.words.specs.Numbers.{numberOf}
 use Rattle.sheet.specs.Marks.{fromMark, beforeMark, behindMark}
 use Rattle.sheet.specs.declared.letters.Pair.{Pair}
 use Rattle.sheet.specs.declared.letters.Pair.the-variants.{Letter, Wrong}

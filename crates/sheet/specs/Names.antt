@@ -3,7 +3,7 @@ use mathlib.Core.Bool.{Bool, true, false, cond, _&&_}
 use mathlib.Core.List.{List, [], _∷_}
 use Prim.Native.Nat.{ℕ, _+_}
 use lib.Dec.{eqb}
-use Rattle.script.specs.Numbers.{between}
+use Rattle.words.specs.Numbers.{between}
 
 -- a capital as its small letter (ASCII)
 abbrev pub small : ℕ → ℕ

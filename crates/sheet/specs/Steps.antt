@@ -4,9 +4,9 @@ use mathlib.Core.List.{List}
 use Prim.Native.Nat.{ℕ, zero, suc, _+_, _*_, _/_, _%_}
 use lib.Dec.{eqb}
 use lib.ListN.{length, drop, getD}
-use Rattle.script.specs.declared.number.Number.{Number}
-use Rattle.script.specs.declared.number.Number.the-variants.{Value, NoNumber, TooLarge}
-use Rattle.script.specs.Numbers.{numberOf}
+use Rattle.words.specs.declared.number.Number.{Number}
+use Rattle.words.specs.declared.number.Number.the-variants.{Value, NoNumber, TooLarge}
+use Rattle.words.specs.Numbers.{numberOf}
 use Rattle.sheet.specs.Marks.{fromMark, beforeMark, behindMark}
 use Rattle.sheet.specs.declared.step.Step.{Step}
 use Rattle.sheet.specs.declared.step.Step.the-variants.{Write, Clocks, Reset, Wrong}

@@ -1,7 +1,7 @@
 // A pair `slot:bank` of the letters' cell: the picture slot of 1 KiB, 0 to 7, and the bank that it must show.
 use crate::marks::place_of;
-use script::number::Number;
-use script::number::in_base;
+use words::number::Number;
+use words::number::in_base;
 ghost use mathlib.Core.Path.{_≡_};
 ghost use Rattle.sheet.specs.Letters.{bankFrom, pairFrom, pairOf};
 

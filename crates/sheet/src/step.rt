@@ -1,7 +1,7 @@
 // A step of a scene: a CPU write `AAAA=BB`, clocks `+N`, or `reset`.
 use crate::marks::place_of;
-use script::number::Number;
-use script::number::in_base;
+use words::number::Number;
+use words::number::in_base;
 ghost use mathlib.Core.Path.{_≡_};
 ghost use Rattle.sheet.specs.Steps.{byteFrom, clocksFrom, codeOf, isReset, stepCoded, stepOf, writeFrom};
 

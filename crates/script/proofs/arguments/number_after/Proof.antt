@@ -5,8 +5,8 @@ use Prim.Native.Nat.{ℕ}
 use borrow.Author.Needs.{needs}
 use denote.Ref.{now}
 use lib.ListN.{drop}
+use Rattle.words.specs.Numbers.{numberOf}
 use Rattle.script.specs.Readings.{readingIn, judged}
-use Rattle.script.specs.Numbers.{numberOf}
 use Rattle.script.proofs.Followed.{carried, missing, taken-at, numbered}
 use Rattle.script.proofs.arguments.number_after.Statement.{statement}
 use Rattle.script.proofs.arguments.number_after.Tie as tie

@@ -1,7 +1,7 @@
 -- `pair_from` meets its contract. Assumes nothing.
 use mathlib.Core.Path.{sym, ap, _∙_}
 use borrow.Author.Needs.{needs}
-use Rattle.script.specs.declared.number.Number.{Number}
+use Rattle.words.specs.declared.number.Number.{Number}
 use Rattle.sheet.specs.Letters.{pairFrom}
 use Rattle.sheet.proofs.letters.pair_from.Statement.{statement}
 use Rattle.sheet.proofs.letters.pair_from.Tie as tie

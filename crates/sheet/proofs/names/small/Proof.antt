@@ -1,6 +1,6 @@
 -- `small` meets its contract. Assumes nothing.
 use native.Mathlib.Omega.{arith}
-use Rattle.script.proofs.Digits.{to-high}
+use Rattle.words.proofs.Digits.{to-high}
 use Rattle.sheet.proofs.names.small.Statement.{statement}
 use Rattle.sheet.proofs.names.small.Tie as tie
 

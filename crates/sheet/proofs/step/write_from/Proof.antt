@@ -1,7 +1,7 @@
 -- `write_from` meets its contract. Assumes nothing.
 use mathlib.Core.Path.{sym, ap, _∙_}
 use borrow.Author.Needs.{needs}
-use Rattle.script.specs.declared.number.Number.{Number}
+use Rattle.words.specs.declared.number.Number.{Number}
 use Rattle.sheet.specs.Steps.{writeFrom}
 use Rattle.sheet.proofs.step.write_from.Statement.{statement}
 use Rattle.sheet.proofs.step.write_from.Tie as tie

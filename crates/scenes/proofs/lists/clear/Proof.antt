@@ -1,8 +1,8 @@
 -- `clear` is safe and ends. Assumes nothing.
 use Prim.Native.Nat.{_≤_, _-_}
 use borrow.Author.Needs.{needs}
-use Rattle.scenes.proofs.words.clear.Statement.{statement}
-use Rattle.scenes.proofs.words.clear.Tie as tie
+use Rattle.scenes.proofs.lists.clear.Statement.{statement}
+use Rattle.scenes.proofs.lists.clear.Tie as tie
 
 abbrev Inv-loop : tie.InvT-loop
 Inv-loop banks₀ i₀ banks i = i ≤ 8

@@ -6,7 +6,6 @@ use crate::row::span_of;
 use crate::scene::ANY_BANK;
 use crate::scene::MOST_STEPS;
 use output::ROOM;
-use script::words::next_word;
 use sheet::Step;
 use sheet::letters::NO_PAIR;
 use sheet::letters::NO_SLOT;
@@ -20,6 +19,7 @@ use sheet::step::NO_BYTE;
 use sheet::step::NO_CLOCKS;
 use sheet::step::code_of;
 use sheet::step::step_of;
+use words::next_word;
 
 // How many words were taken, whether all were right, and how many bytes the output buffer holds.
 pub struct Words {

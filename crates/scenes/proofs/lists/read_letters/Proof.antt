@@ -1,13 +1,16 @@
--- `read_steps` is safe and ends. Assumes nothing.
+-- `read_letters` is safe and ends. Assumes nothing.
 use borrow.Author.Needs.{needs}
-use Rattle.scenes.proofs.words.read_steps.Statement.{statement}
-use Rattle.scenes.proofs.words.read_steps.Tie as tie
+use Rattle.scenes.proofs.lists.read_letters.Statement.{statement}
+use Rattle.scenes.proofs.lists.read_letters.Tie as tie
 
 abbrev Inv-loop : tie.InvT-loop
-Inv-loop text spans codes₀ out₀ len row column words₀ span at₀ end left₀ codes out words at left = Unit {0}
+Inv-loop text spans banks₀ out₀ len row column words₀ span at₀ end left₀ banks out words at left = Unit {0}
 
 abbrev μ-loop : tie.MeasureT-loop
-μ-loop text spans codes₀ out₀ len row column words₀ span at₀ end left₀ codes out words at left = left
+μ-loop text spans banks₀ out₀ len row column words₀ span at₀ end left₀ banks out words at left = left
+
+clear-requires : tie.Need-clear-requires Inv-loop μ-loop
+clear-requires c κs = search needs
 
 span-of-requires : tie.Need-span-of-requires Inv-loop μ-loop
 span-of-requires c κs = search needs
@@ -33,23 +36,20 @@ part-next-word-end c = search needs
 next-word-requires : tie.Need-next-word-requires Inv-loop μ-loop
 next-word-requires c κs = search needs
 
-put-many-requires : tie.Need-put-many-requires Inv-loop μ-loop
-put-many-requires c κs = search needs
-
 returns-2 : tie.Need-returns-2 Inv-loop μ-loop
 returns-2 c = search needs
 
-sub-take-step : tie.Need-sub-take-step Inv-loop μ-loop
-sub-take-step c = search needs
+sub-take-pair : tie.Need-sub-take-pair Inv-loop μ-loop
+sub-take-pair c = search needs
 
-part-take-step-start : tie.Need-part-take-step-start Inv-loop μ-loop
-part-take-step-start c = search needs
+part-take-pair-start : tie.Need-part-take-pair-start Inv-loop μ-loop
+part-take-pair-start c = search needs
 
-part-take-step-end : tie.Need-part-take-step-end Inv-loop μ-loop
-part-take-step-end c = search needs
+part-take-pair-end : tie.Need-part-take-pair-end Inv-loop μ-loop
+part-take-pair-end c = search needs
 
-take-step-requires : tie.Need-take-step-requires Inv-loop μ-loop
-take-step-requires c κs = search needs
+take-pair-requires : tie.Need-take-pair-requires Inv-loop μ-loop
+take-pair-requires c κs = search needs
 
 loop-less : tie.Need-loop-less Inv-loop μ-loop
 loop-less c = search needs
@@ -60,12 +60,13 @@ loop-again c = search needs
 returns-3 : tie.Need-returns-3 Inv-loop μ-loop
 returns-3 c = search needs
 
-pub read-steps-spec : {M : Type 1} → statement M
-read-steps-spec =
+pub read-letters-spec : {M : Type 1} → statement M
+read-letters-spec =
     tie.close
     (tie.spec
     Inv-loop
     μ-loop
+    clear-requires
     span-of-requires
     returns
     loop-holds
@@ -74,12 +75,11 @@ read-steps-spec =
     part-next-word-start
     part-next-word-end
     next-word-requires
-    put-many-requires
     returns-2
-    sub-take-step
-    part-take-step-start
-    part-take-step-end
-    take-step-requires
+    sub-take-pair
+    part-take-pair-start
+    part-take-pair-end
+    take-pair-requires
     loop-less
     loop-again
     returns-3)
