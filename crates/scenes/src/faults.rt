@@ -4,7 +4,7 @@ use output::put;
 use output::put_number;
 use output::put_text;
 
-// The columns, by sheet's `column_of`.
+// The columns, by cells' `column_of`.
 pub const SCENE: usize = 0;
 
 pub const PRG: usize = 1;

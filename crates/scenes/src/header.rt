@@ -1,10 +1,10 @@
 // The header row: which cell of a row each column is.
 use crate::faults::put_cell;
 use crate::faults::put_row_fault;
+use cells::cell_at;
+use cells::columns::column_of;
 use output::ROOM;
 use output::put_text;
-use sheet::cells::cell_at;
-use sheet::columns::column_of;
 
 // The header's end, how many cells it has, whether it will do, and how many bytes the output buffer holds.
 pub struct Header {

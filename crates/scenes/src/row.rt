@@ -1,10 +1,10 @@
 // A row's cells, found by the header's columns.
 use crate::faults::put_cell_fault;
 use crate::faults::put_row_fault;
+use cells::Cell;
+use cells::UNCLOSED;
+use cells::cell_at;
 use output::ROOM;
-use sheet::cells::Cell;
-use sheet::cells::UNCLOSED;
-use sheet::cells::cell_at;
 
 // For each of the nine columns where its cell starts and ends, and 1 if it is in quotes; all 0 for one that is missing.
 pub const SPANS: usize = 27;

@@ -1,9 +1,3 @@
 pub mod Codes
-pub mod Contents
-pub mod Held
-pub mod Quotes
-pub mod RoundTrip
 pub mod Rows
 pub mod Said
-pub mod Same
-pub mod Spans

@@ -1,15 +1,12 @@
 -- The examples, computed. Assumes nothing.
 use mathlib.Core.Path.{refl}
 use Rattle.words.specs.Numbers.{numberOf}
-use Rattle.sheet.specs.Cells.{plainCell, quotedCell}
-use Rattle.sheet.specs.Choices.{mirroringOf, revisionOf}
-use Rattle.sheet.specs.Columns.{columnOf}
 use Rattle.sheet.specs.Letters.{pairOf}
 use Rattle.sheet.specs.Steps.{stepOf}
 use Rattle.sheet.specs.Laws.{Examples}
 
 pub examples : Examples
-unfolding columnOf mirroringOf numberOf pairOf plainCell quotedCell revisionOf stepOf
+unfolding numberOf pairOf stepOf
 examples =
     record {
       write = refl;
@@ -26,14 +23,4 @@ examples =
       no-pair = refl;
       no-slot = refl;
       no-bank = refl;
-      plain = refl;
-      row-end = refl;
-      unclosed = refl;
-      behind-quote = refl;
-      column = refl;
-      no-column = refl;
-      revision = refl;
-      no-revision = refl;
-      mirroring = refl;
-      no-mirroring = refl;
     }

@@ -6,12 +6,12 @@ use Prim.Native.Nat.{ℕ, zero, suc, _+_, _-_, _%_}
 use borrow.Author.Tests.{eq-eqb, ne-eqb}
 use lib.ListN.{length, take, drop, getD}
 use Rattle.words.specs.Numbers.{numberOf}
+use Rattle.cells.specs.Marks.{PlaceOf, fromMark}
+use Rattle.cells.proofs.Spans.{head, tail, missing, there, onward}
 use Rattle.sheet.specs.declared.letters.Pair.the-variants as pair
 use Rattle.sheet.specs.declared.step.Step.the-variants.{Reset, Wrong}
 use Rattle.sheet.specs.Letters.{pairFrom, pairOf}
-use Rattle.sheet.specs.Marks.{PlaceOf, fromMark}
 use Rattle.sheet.specs.Steps.{clocksFrom, isReset, stepFrom, stepOf, writeFrom}
-use Rattle.sheet.proofs.Spans.{head, tail, missing, there, onward}
 
 -- a word of a step
 pub resets : (w : List ℕ) → isReset w ≡ true → Reset ≡ stepOf w

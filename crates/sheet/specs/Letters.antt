@@ -7,7 +7,7 @@ use lib.ListN.{length}
 use Rattle.words.specs.declared.number.Number.{Number}
 use Rattle.words.specs.declared.number.Number.the-variants.{Value, NoNumber, TooLarge}
 use Rattle.words.specs.Numbers.{numberOf}
-use Rattle.sheet.specs.Marks.{fromMark, beforeMark, behindMark}
+use Rattle.cells.specs.Marks.{fromMark, beforeMark, behindMark}
 use Rattle.sheet.specs.declared.letters.Pair.{Pair}
 use Rattle.sheet.specs.declared.letters.Pair.the-variants.{Letter, Wrong}
 

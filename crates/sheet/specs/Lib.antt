@@ -1,9 +1,3 @@
-pub mod Cells
-pub mod Choices
-pub mod Columns
 pub mod Laws
 pub mod Letters
-pub mod Marks
-pub mod Names
-pub mod Places
 pub mod Steps

@@ -1,5 +1,5 @@
 // A pair `slot:bank` of the letters' cell: the picture slot of 1 KiB, 0 to 7, and the bank that it must show.
-use crate::marks::place_of;
+use cells::marks::place_of;
 use words::number::Number;
 use words::number::in_base;
 ghost use mathlib.Core.Path.{_≡_};

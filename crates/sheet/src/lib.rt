@@ -1,10 +1,5 @@
-// A sheet of scenes: its rows and cells as spreadsheets export them, the names of its columns, and the words of its cells.
-pub mod cells;
-pub mod choices;
-pub mod columns;
+// What the words in the cells of a scene say: the steps, and the pairs of the letters.
 pub mod letters;
-pub mod marks;
-mod names;
 pub mod step;
 
 pub use step::Step;

@@ -1,5 +1,5 @@
 // A step of a scene: a CPU write `AAAA=BB`, clocks `+N`, or `reset`.
-use crate::marks::place_of;
+use cells::marks::place_of;
 use words::number::Number;
 use words::number::in_base;
 ghost use mathlib.Core.Path.{_≡_};

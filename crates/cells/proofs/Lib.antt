@@ -1,0 +1,7 @@
+pub mod Contents
+pub mod Held
+pub mod Quotes
+pub mod RoundTrip
+pub mod Rows
+pub mod Same
+pub mod Spans

@@ -1,0 +1,7 @@
+pub mod Cells
+pub mod Choices
+pub mod Columns
+pub mod Laws
+pub mod Marks
+pub mod Names
+pub mod Places
