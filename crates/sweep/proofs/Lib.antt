@@ -1,9 +1,4 @@
-pub mod Boarded
 pub mod Columns
-pub mod Comes
 pub mod Counting
 pub mod Handling
-pub mod Least
-pub mod Runs
 pub mod Screen
-pub mod Walks

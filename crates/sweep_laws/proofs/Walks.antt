@@ -21,13 +21,13 @@ use Rattle.ledger.specs.Demand3.{weight, clockCount}
 use Rattle.sheet.specs.declared.step.Step.{Step}
 use Rattle.sheet.specs.declared.step.Step.the-variants.{Write, Clocks, Reset, Wrong}
 use Rattle.sheet.specs.Steps.{stepCoded, stepFrom}
 use Rattle.sweep.specs.declared.moment.Moment.{Moment}
 use Rattle.sweep.specs.declared.moment.Came.{Came}
 use Rattle.sweep.specs.declared.moment.Came.the-variants.{Never, On}
-use Rattle.sweep.specs.Counter.{counterAfter}
+use Rattle.sweep_laws.specs.Counter.{counterAfter}
 use Rattle.sweep.specs.Moments.{added, came, comingIn, due, dueWithin, ended, moment, played, taken, waited}
-use Rattle.sweep.specs.Rises.{Found, handlerCalls, stepCalls}
-use Rattle.sweep.proofs.Runs.{Ready, rises, quiet, sets-within, within, first-due, quiet-due, due-low, ready-after, ready-taken, ready-zero}
+use Rattle.sweep_laws.specs.Rises.{Found, handlerCalls, stepCalls}
+use Rattle.sweep_laws.proofs.Runs.{Ready, rises, quiet, sets-within, within, first-due, quiet-due, due-low, ready-after, ready-taken, ready-zero}
 
 -- ---- clocks in a list
 pub count-joined : (ks js : List Call) → clockCount (ks ++ js) ≡ clockCount ks + clockCount js

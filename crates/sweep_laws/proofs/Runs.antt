@@ -29,9 +29,9 @@ use Rattle.calls.specs.declared.Call.{Call}
 use Rattle.calls.specs.declared.Call.the-variants.{Clock}
 use Rattle.ledger.specs.Ledger.{event}
 use Rattle.ledger.specs.Demand3.{weight}
-use Rattle.sweep.specs.Counter.{counterAfter}
+use Rattle.sweep_laws.specs.Counter.{counterAfter}
 use Rattle.sweep.specs.Moments.{due, dueFrom, dueWithin}
-use Rattle.sweep.proofs.Least.{due-law}
+use Rattle.sweep_laws.proofs.Least.{due-law}
 
 -- ---- the counters that a board can hold
 pub record Fine (q : VrcIrq) : Type 0 where

@@ -19,12 +19,12 @@ use Rattle.calls.specs.Lists.{refusalIn, next, after, answers}
 use Rattle.ledger.specs.Ledger.{event}
 use Rattle.ledger.specs.Demand3.{Each, weight, clockCount, start}
 use Rattle.ledger.proofs.Whole.{demand3}
-use Rattle.sweep.specs.Counter.{counterAfter}
-use Rattle.sweep.specs.Rises.{OfByte, Waits, cameAt, handlerCalls, risesAt, runAt}
-use Rattle.sweep.specs.Laws.{Comes, RiseLaw, CameLaw}
-use Rattle.sweep.proofs.Boarded.{counter-law}
-use Rattle.sweep.proofs.Runs.{Fine, Ready, fine-clocked, fine-taken, fine-zero, taken-clear, ready-after, rises, quiet, quiet-due}
-use Rattle.sweep.proofs.Walks.{told, found-same, count-joined, count-run}
+use Rattle.sweep_laws.specs.Counter.{counterAfter}
+use Rattle.sweep_laws.specs.Rises.{OfByte, Waits, cameAt, handlerCalls, risesAt, runAt}
+use Rattle.sweep_laws.specs.Laws.{Comes, RiseLaw, CameLaw}
+use Rattle.sweep_laws.proofs.Boarded.{counter-law}
+use Rattle.sweep_laws.proofs.Runs.{Fine, Ready, fine-clocked, fine-taken, fine-zero, taken-clear, ready-after, rises, quiet, quiet-due}
+use Rattle.sweep_laws.proofs.Walks.{told, found-same, count-joined, count-run}
 
 -- ---- only a clock sets pending
 module _ (b : Bool) (q : VrcIrq) (c : q .«irq_pending» ≡ false) where

@@ -13,9 +13,9 @@ use Rattle.vrc6.specs.Calls.{create}
 use Rattle.calls.specs.Lists.{given, refusalIn, next, after}
 use Rattle.ledger.specs.Ledger.{event}
 use Rattle.ledger.specs.Demand3.{Each, weight, clockCount, start}
-use Rattle.sweep.specs.Counter.{counterAfter}
+use Rattle.sweep_laws.specs.Counter.{counterAfter}
 use Rattle.sweep.specs.Moments.{due}
-use Rattle.sweep.specs.Rises.{OfByte, Waits, Found, cameAt, handlerCalls, risesAt, runAt}
+use Rattle.sweep_laws.specs.Rises.{OfByte, Waits, Found, cameAt, handlerCalls, risesAt, runAt}
 
 -- ---- the counter alone
 -- the clocks due of a counter

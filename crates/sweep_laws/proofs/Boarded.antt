@@ -17,7 +17,7 @@ use Rattle.vrc6.specs.Boards.{State}
 use Rattle.vrc6.specs.Checks.{engineRefusal, memoryRefusal, cpuWriteRefusal}
 use Rattle.vrc6.specs.Calls.{registerWritten, cpuWritten, pictureWritten, clocked, wasReset}
 use Rattle.calls.specs.declared.Call.the-variants.{CpuRead, CpuWrite, LentCpuWrite, PictureRead, PictureWrite, Clock, LentClock, SoftReset, HardReset, ReadLevel, PageView, ReadForecast}
-use Rattle.sweep.specs.Laws.{Counted, CounterLaw}
+use Rattle.sweep_laws.specs.Laws.{Counted, CounterLaw}
 
 -- ---- a register takes a byte
 same-revision : (r : BankRegister) (v : ℕ) (b : Banking) → bankWritten r v b .revision ≡ b .revision

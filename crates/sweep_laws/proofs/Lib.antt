@@ -1,0 +1,5 @@
+pub mod Boarded
+pub mod Comes
+pub mod Least
+pub mod Runs
+pub mod Walks
