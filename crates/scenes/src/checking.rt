@@ -140,7 +140,7 @@ fn sweep_menu(
     )
 }
 
-pub fn check(
+pub(crate) fn check(
     totals: Totals,
     scene: Scene,
     ended: Ended,

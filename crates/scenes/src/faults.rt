@@ -44,13 +44,13 @@ fn put_column(out: &mut [u8; ROOM], len: usize, column: usize) -> usize {
     }
 }
 
-pub fn put_row(out: &mut [u8; ROOM], len: usize, row: u32) -> usize {
+pub(crate) fn put_row(out: &mut [u8; ROOM], len: usize, row: u32) -> usize {
     let a = put_text(out, len, b"row ");
     put_number(out, a, row)
 }
 
 // The beginning of a fault.
-pub fn put_place(out: &mut [u8; ROOM], len: usize, row: u32, column: usize) -> usize {
+pub(crate) fn put_place(out: &mut [u8; ROOM], len: usize, row: u32, column: usize) -> usize {
     let a = put_row(out, len, row);
     let b = put_text(out, a, b", ");
     let c = put_column(out, b, column);
@@ -58,7 +58,7 @@ pub fn put_place(out: &mut [u8; ROOM], len: usize, row: u32, column: usize) -> u
 }
 
 // A cell's bytes; in quotes a doubled quote stands for one.
-pub fn put_cell(out: &mut [u8; ROOM], len: usize, cell: &[u8], quoted: bool) -> usize {
+pub(crate) fn put_cell(out: &mut [u8; ROOM], len: usize, cell: &[u8], quoted: bool) -> usize {
     let mut n = len;
     let mut i: usize = 0;
     let mut half = false;
@@ -74,7 +74,13 @@ pub fn put_cell(out: &mut [u8; ROOM], len: usize, cell: &[u8], quoted: bool) -> 
 }
 
 // A word that is wrong, in single quotes, and what is wrong with it.
-pub fn put_fault(out: &mut [u8; ROOM], len: usize, at: Place, word: &[u8], wrong: &[u8]) -> usize {
+pub(crate) fn put_fault(
+    out: &mut [u8; ROOM],
+    len: usize,
+    at: Place,
+    word: &[u8],
+    wrong: &[u8],
+) -> usize {
     let a = put_place(out, len, at.row, at.column);
     let b = put(out, a, b'\'');
     let c = put_cell(out, b, word, at.quoted);
@@ -84,7 +90,7 @@ pub fn put_fault(out: &mut [u8; ROOM], len: usize, at: Place, word: &[u8], wrong
 }
 
 // A fault of a whole cell.
-pub fn put_cell_fault(
+pub(crate) fn put_cell_fault(
     out: &mut [u8; ROOM],
     len: usize,
     row: u32,
@@ -97,7 +103,7 @@ pub fn put_cell_fault(
 }
 
 // A fault of a whole row.
-pub fn put_row_fault(out: &mut [u8; ROOM], len: usize, row: u32, wrong: &[u8]) -> usize {
+pub(crate) fn put_row_fault(out: &mut [u8; ROOM], len: usize, row: u32, wrong: &[u8]) -> usize {
     let a = put_row(out, len, row);
     let b = put_text(out, a, b": ");
     let c = put_text(out, b, wrong);
@@ -105,6 +111,6 @@ pub fn put_row_fault(out: &mut [u8; ROOM], len: usize, row: u32, wrong: &[u8]) -
 }
 
 // A cell with more steps than there is room for.
-pub fn put_room_fault(out: &mut [u8; ROOM], len: usize, at: Place) -> usize {
+pub(crate) fn put_room_fault(out: &mut [u8; ROOM], len: usize, at: Place) -> usize {
     put_cell_fault(out, len, at.row, at.column, b"more than 4096 steps")
 }

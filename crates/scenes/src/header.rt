@@ -78,7 +78,7 @@ fn header_start(text: &[u8]) -> usize {
 }
 
 // The columns of cells 1, 2, ..; 0 for a column that the sheet does not have.
-pub fn read_header(
+pub(crate) fn read_header(
     text: &[u8],
     columns: &mut [usize; 9],
     out: &mut [u8; ROOM],

@@ -1,4 +1,5 @@
 // The cells of many words: steps, and letters.
+use crate::faults::LETTERS;
 use crate::faults::Place;
 use crate::faults::put_fault;
 use crate::faults::put_room_fault;
@@ -120,72 +121,43 @@ fn put_many(out: &mut [u8; ROOM], words: Words, at: Place) -> Words {
     words
 }
 
-// A column's steps.
-pub fn read_steps(
+// A word of the letters' column is a pair, of the others a step.
+fn take_word(
+    given: Words,
+    codes: &mut [u32; MOST_STEPS],
+    banks: &mut [u32; 8],
+    out: &mut [u8; ROOM],
+    at: Place,
+    word: &[u8],
+) -> Words {
+    if at.column == LETTERS {
+        return take_pair(given, banks, out, at, word);
+    }
+    take_step(given, codes, out, at, word)
+}
+
+// A column's words: its steps go to codes, its pairs to banks.
+pub(crate) fn read_words(
     text: &[u8],
     spans: &[usize; 27],
     codes: &mut [u32; MOST_STEPS],
-    out: &mut [u8; ROOM],
-    len: usize,
-    row: u32,
-    column: usize,
-) -> Words {
-    let mut words = Words {
-        count: 0,
-        good: true,
-        len,
-    };
-    let span = span_of(spans, column);
-    let mut at = span.from;
-    let end = span.to;
-    if text.len() < end {
-        return words;
-    }
-    let mut left = end;
-    while left > 0 {
-        left -= 1;
-        let word = next_word(&text[0..end], at);
-        let from = word.from;
-        let to = word.to;
-        let place = Place {
-            row,
-            column,
-            quoted: span.quoted,
-        };
-        if from == to {
-            return put_many(out, words, place);
-        }
-        words = take_step(words, codes, out, place, &text[from..to]);
-        at = to;
-    }
-    words
-}
-
-fn clear(banks: &mut [u32; 8]) {
-    let mut i: usize = 0;
-    while i < 8 {
-        banks[i] = ANY_BANK;
-        i += 1;
-    }
-}
-
-// The letters' pairs.
-pub fn read_letters(
-    text: &[u8],
-    spans: &[usize; 27],
     banks: &mut [u32; 8],
     out: &mut [u8; ROOM],
     len: usize,
     row: u32,
     column: usize,
 ) -> Words {
-    clear(banks);
     let mut words = Words {
         count: 0,
         good: true,
         len,
     };
     let span = span_of(spans, column);
+    let place = Place {
+        row,
+        column,
+        quoted: span.quoted,
+    };
     let mut at = span.from;
     let end = span.to;
     if text.len() < end {
@@ -197,16 +169,20 @@ pub fn read_letters(
         let word = next_word(&text[0..end], at);
         let from = word.from;
         let to = word.to;
-        let place = Place {
-            row,
-            column,
-            quoted: span.quoted,
-        };
         if from == to {
-            return words;
+            return put_many(out, words, place);
         }
-        words = take_pair(words, banks, out, place, &text[from..to]);
+        words = take_word(words, codes, banks, out, place, &text[from..to]);
         at = to;
     }
-    words
+    put_many(out, words, place)
+}
+
+// No bank is asked of any slot.
+pub(crate) fn clear(banks: &mut [u32; 8]) {
+    let mut i: usize = 0;
+    while i < 8 {
+        banks[i] = ANY_BANK;
+        i += 1;
+    }
 }

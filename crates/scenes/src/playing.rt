@@ -108,7 +108,7 @@ fn none() -> Ended {
 }
 
 // PRG RAM and CIRAM are those of layout S. The buffers have room for every layout, so both tests hold.
-pub fn play_writes(
+pub(crate) fn play_writes(
     scene: Scene,
     fixed: &[u8],
     changing: &mut [u8],

@@ -9,8 +9,8 @@ use crate::faults::REVISION;
 use crate::faults::WINDOW;
 use crate::faults::WRITES;
 use crate::faults::put_fault;
-use crate::lists::read_letters;
-use crate::lists::read_steps;
+use crate::lists::clear;
+use crate::lists::read_words;
 use crate::row::span_of;
 use crate::scene::MOST_STEPS;
 use crate::scene::NO_WINDOW;
@@ -158,7 +158,7 @@ fn read_singles(
 }
 
 // The whole row. The steps and the banks asked go into the arrays.
-pub fn read_scene(
+pub(crate) fn read_scene(
     text: &[u8],
     spans: &[usize; 27],
     writes: &mut [u32; MOST_STEPS],
@@ -170,9 +170,10 @@ pub fn read_scene(
 ) -> Scene {
     let mut scene = read_singles(text, spans, out, Scene::new(len), row);
     let good = scene.good;
-    let first = read_steps(text, spans, writes, out, scene.len, row, WRITES);
-    let second = read_steps(text, spans, menu, out, first.len, row, MENU);
-    let letters = read_letters(text, spans, banks, out, second.len, row, LETTERS);
+    clear(banks);
+    let first = read_words(text, spans, writes, banks, out, scene.len, row, WRITES);
+    let second = read_words(text, spans, menu, banks, out, first.len, row, MENU);
+    let letters = read_words(text, spans, menu, banks, out, second.len, row, LETTERS);
     scene.writes = first.count;
     scene.menu = second.count;
     scene.len = letters.len;

@@ -31,7 +31,7 @@ fn put_off(out: &mut [u8; ROOM], len: usize, verdict: Verdict) -> usize {
 }
 
 // `line 12 ok`, `line 13, one late`, `never`.
-pub fn put_verdict(out: &mut [u8; ROOM], len: usize, verdict: Verdict) -> usize {
+pub(crate) fn put_verdict(out: &mut [u8; ROOM], len: usize, verdict: Verdict) -> usize {
     if verdict.mark == NEVER {
         return put_text(out, len, b"never");
     }
@@ -49,7 +49,13 @@ fn put_bank(out: &mut [u8; ROOM], len: usize, bank: u32) -> usize {
 }
 
 // A slot that shows another bank.
-pub fn put_slot(out: &mut [u8; ROOM], len: usize, slot: usize, shown: u32, asked: u32) -> usize {
+pub(crate) fn put_slot(
+    out: &mut [u8; ROOM],
+    len: usize,
+    slot: usize,
+    shown: u32,
+    asked: u32,
+) -> usize {
     let a = put_text(out, len, b"  letters: slot ");
     let b = put_number(out, a, (slot % 256) as u32);
     let c = put_text(out, b, b" shows ");
@@ -60,7 +66,13 @@ pub fn put_slot(out: &mut [u8; ROOM], len: usize, slot: usize, shown: u32, asked
 }
 
 // A run of clocks with one verdict. The first of a sweep is headed by a word, the others stand below it.
-pub fn put_run(out: &mut [u8; ROOM], len: usize, from: u32, to: u32, verdict: Verdict) -> usize {
+pub(crate) fn put_run(
+    out: &mut [u8; ROOM],
+    len: usize,
+    from: u32,
+    to: u32,
+    verdict: Verdict,
+) -> usize {
     let mut a = put_text(out, len, b"         ");
     if from == 0 {
         a = put_text(out, len, b"  clocks ");
@@ -82,7 +94,7 @@ fn put_moment(out: &mut [u8; ROOM], len: usize, name: &[u8], k: u32, verdict: Ve
 }
 
 // The first wrong moment and the worst.
-pub fn put_worst(
+pub(crate) fn put_worst(
     out: &mut [u8; ROOM],
     len: usize,
     first: u32,
@@ -104,7 +116,7 @@ fn mark_of(mark: u8) -> u8 {
 }
 
 // The bar of 64 columns.
-pub fn put_bar(out: &mut [u8; ROOM], len: usize, bar: &[u8; 64]) -> usize {
+pub(crate) fn put_bar(out: &mut [u8; ROOM], len: usize, bar: &[u8; 64]) -> usize {
     let mut n = put_text(out, len, b"  [");
     let mut i: usize = 0;
     while i < 64 {

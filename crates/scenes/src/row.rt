@@ -25,7 +25,7 @@ pub struct Span {
     pub quoted: bool,
 }
 
-pub fn span_of(spans: &[usize; 27], column: usize) -> Span {
+pub(crate) fn span_of(spans: &[usize; 27], column: usize) -> Span {
     if column < 9 {
         return Span {
             from: spans[3 * column],
@@ -117,7 +117,7 @@ fn take(
 }
 
 // The row that starts at `start`.
-pub fn read_row(
+pub(crate) fn read_row(
     text: &[u8],
     start: usize,
     columns: &[usize; 9],

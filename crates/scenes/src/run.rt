@@ -234,7 +234,12 @@ fn will_do(header: Header, columns: &[usize; 9], text: &[u8], out: &mut [u8; ROO
     header.good
 }
 
-pub fn run(fixed: &[u8; 525312], changing: &mut [u8; 274432], text: &[u8], out: &mut [u8; ROOM]) {
+pub(crate) fn run(
+    fixed: &[u8; 525312],
+    changing: &mut [u8; 274432],
+    text: &[u8],
+    out: &mut [u8; ROOM],
+) {
     let mut columns = [0usize; 9];
     let header = read_header(text, &mut columns, out, 0);
     if will_do(header, &columns, text, out) {

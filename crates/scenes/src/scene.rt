@@ -26,7 +26,7 @@ pub struct Scene {
 
 impl Scene {
     // Layout S of document 01, revision A, vertical mirroring.
-    pub fn new(len: usize) -> Scene {
+    pub(crate) fn new(len: usize) -> Scene {
         Scene {
             prg: 131072,
             chr: 131072,

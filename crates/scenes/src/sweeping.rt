@@ -139,7 +139,7 @@ fn mark(bar: &mut [u8; 64], k: u32, clocks: u32, mark: u8) {
 }
 
 // Plays the menu at each clock. The counter goes on by a clock from moment to moment.
-pub fn sweep_clocks(
+pub(crate) fn sweep_clocks(
     given: Sweep,
     clocks: u32,
     menu: &[u32],

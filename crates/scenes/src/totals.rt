@@ -19,7 +19,7 @@ fn sum(a: u32, b: u32) -> u32 {
 }
 
 impl Totals {
-    pub fn new(len: usize) -> Totals {
+    pub(crate) fn new(len: usize) -> Totals {
         Totals {
             len,
             row: 1,
@@ -32,24 +32,24 @@ impl Totals {
         }
     }
 
-    pub fn holding(mut self, len: usize) -> Totals {
+    pub(crate) fn holding(mut self, len: usize) -> Totals {
         self.len = len;
         self
     }
 
-    pub fn next_row(mut self) -> Totals {
+    pub(crate) fn next_row(mut self) -> Totals {
         self.row = sum(self.row, 1);
         self
     }
 
-    pub fn bad_row(mut self, len: usize) -> Totals {
+    pub(crate) fn bad_row(mut self, len: usize) -> Totals {
         self.bad = sum(self.bad, 1);
         self.len = len;
         self
     }
 
     // A scene that was played: whether it is right, and how many moments were swept and were wrong.
-    pub fn scene(mut self, len: usize, right: bool, moments: u32, wrong: u32) -> Totals {
+    pub(crate) fn scene(mut self, len: usize, right: bool, moments: u32, wrong: u32) -> Totals {
         self.scenes = sum(self.scenes, 1);
         self.moments = sum(self.moments, moments);
         self.wrong = sum(self.wrong, wrong);
@@ -60,7 +60,7 @@ impl Totals {
         self
     }
 
-    pub fn telling(mut self) -> Totals {
+    pub(crate) fn telling(mut self) -> Totals {
         self.told = self.moments;
         self
     }

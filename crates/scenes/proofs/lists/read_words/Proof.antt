@@ -1,13 +1,13 @@
--- `read_steps` is safe and ends. Assumes nothing.
+-- `read_words` is safe and ends. Assumes nothing.
 use borrow.Author.Needs.{needs}
-use Rattle.scenes.proofs.lists.read_steps.Statement.{statement}
-use Rattle.scenes.proofs.lists.read_steps.Tie as tie
+use Rattle.scenes.proofs.lists.read_words.Statement.{statement}
+use Rattle.scenes.proofs.lists.read_words.Tie as tie
 
 abbrev Inv-loop : tie.InvT-loop
-Inv-loop text spans codes₀ out₀ len row column words₀ span at₀ end left₀ codes out words at left = Unit {0}
+Inv-loop text spans codes₀ banks₀ out₀ len row column words₀ place at₀ end left₀ codes banks out words at left = Unit {0}
 
 abbrev μ-loop : tie.MeasureT-loop
-μ-loop text spans codes₀ out₀ len row column words₀ span at₀ end left₀ codes out words at left = left
+μ-loop text spans codes₀ banks₀ out₀ len row column words₀ place at₀ end left₀ codes banks out words at left = left
 
 span-of-requires : tie.Need-span-of-requires Inv-loop μ-loop
 span-of-requires c κs = search needs
@@ -39,17 +39,17 @@ put-many-requires c κs = search needs
 returns-2 : tie.Need-returns-2 Inv-loop μ-loop
 returns-2 c = search needs
 
-sub-take-step : tie.Need-sub-take-step Inv-loop μ-loop
-sub-take-step c = search needs
+sub-take-word : tie.Need-sub-take-word Inv-loop μ-loop
+sub-take-word c = search needs
 
-part-take-step-start : tie.Need-part-take-step-start Inv-loop μ-loop
-part-take-step-start c = search needs
+part-take-word-start : tie.Need-part-take-word-start Inv-loop μ-loop
+part-take-word-start c = search needs
 
-part-take-step-end : tie.Need-part-take-step-end Inv-loop μ-loop
-part-take-step-end c = search needs
+part-take-word-end : tie.Need-part-take-word-end Inv-loop μ-loop
+part-take-word-end c = search needs
 
-take-step-requires : tie.Need-take-step-requires Inv-loop μ-loop
-take-step-requires c κs = search needs
+take-word-requires : tie.Need-take-word-requires Inv-loop μ-loop
+take-word-requires c κs = search needs
 
 loop-less : tie.Need-loop-less Inv-loop μ-loop
 loop-less c = search needs
@@ -57,11 +57,14 @@ loop-less c = search needs
 loop-again : tie.Need-loop-again Inv-loop μ-loop
 loop-again c = search needs
 
+put-many-requires-2 : tie.Need-put-many-requires-2 Inv-loop μ-loop
+put-many-requires-2 c κs = search needs
+
 returns-3 : tie.Need-returns-3 Inv-loop μ-loop
 returns-3 c = search needs
 
-pub read-steps-spec : {M : Type 1} → statement M
-read-steps-spec =
+pub read-words-spec : {M : Type 1} → statement M
+read-words-spec =
     tie.close
     (tie.spec
     Inv-loop
@@ -76,10 +79,11 @@ read-steps-spec =
     next-word-requires
     put-many-requires
     returns-2
-    sub-take-step
-    part-take-step-start
-    part-take-step-end
-    take-step-requires
+    sub-take-word
+    part-take-word-start
+    part-take-word-end
+    take-word-requires
     loop-less
     loop-again
+    put-many-requires-2
     returns-3)
