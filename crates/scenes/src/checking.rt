@@ -6,7 +6,6 @@ use crate::scene::ANY_BANK;
 use crate::scene::MOST_STEPS;
 use crate::scene::NO_WINDOW;
 use crate::scene::Scene;
-use crate::sweeping::Sweep;
 use crate::sweeping::sweep_clocks;
 use crate::totals::Totals;
 use output::ROOM;
@@ -14,6 +13,7 @@ use output::put;
 use output::put_number;
 use output::put_text;
 use sweep::Came;
+use sweep::Sweep;
 use sweep::Verdict;
 use sweep::lines::line_of;
 use sweep::moment::clocks_due;
@@ -126,12 +126,11 @@ fn sweep_menu(
         return totals.scene(len, checked.right, 0, 0);
     }
     let given = Sweep {
-        irq,
         prescaler: irq.prescalar_counter,
         revision_b: scene.revision_b,
         window: right_line(scene, irq),
     };
-    let swept = sweep_clocks(given, clocks, menu, out, checked.len);
+    let swept = sweep_clocks(given, irq, clocks, menu, out, checked.len);
     totals.scene(
         swept.len,
         checked.right & (swept.wrong == 0),

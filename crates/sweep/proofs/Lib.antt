@@ -1,4 +1,5 @@
 pub mod Columns
 pub mod Counting
 pub mod Handling
+pub mod Running
 pub mod Screen

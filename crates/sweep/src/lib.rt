@@ -2,9 +2,12 @@
 pub mod bar;
 pub mod lines;
 pub mod moment;
+pub mod runs;
 pub mod shown;
 pub mod verdict;
 
 pub use moment::Came;
 pub use moment::Moment;
+pub use runs::Run;
+pub use runs::Sweep;
 pub use verdict::Verdict;

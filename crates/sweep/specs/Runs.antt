@@ -1,0 +1,40 @@
+-- Runs of clocks at which the menu has one verdict (docs/SCENES.md). Assumes nothing.
+use mathlib.Core.Path.{_≡_}
+use mathlib.Core.Bool.{Bool, true, false, _&&_}
+use mathlib.Core.List.{List}
+use mathlib.Core.Logic.{_⊎_}
+use Prim.Native.Nat.{ℕ, _-_, _≤_, _<_}
+use lib.Dec.{eqb}
+use Rattle.vrc_irq.specs.declared.VrcIrq.{VrcIrq}
+use Rattle.vrc_irq.specs.Board.{step, line}
+use Rattle.vrc_irq.specs.Clocks.{irqAfter}
+use Rattle.sweep.specs.declared.runs.Sweep.{Sweep}
+use Rattle.sweep.specs.declared.runs.Run.{Run}
+use Rattle.sweep.specs.declared.verdict.Verdict.{Verdict}
+use Rattle.sweep.specs.Moments.{came, moment}
+use Rattle.sweep.specs.Verdicts.{verdictOf}
+
+-- the verdict if the menu runs at clock k, which leaves the counter so
+abbrev pub verdictAt : Sweep → List ℕ → VrcIrq → (k : ℕ) → Verdict
+verdictAt s menu q k = verdictOf (came (s .«revision_b») menu (moment q k)) (s .prescaler) (s .window)
+
+-- the verdict at clock j, from the counter at an earlier clock
+abbrev pub verdictFrom : Sweep → List ℕ → VrcIrq → (from j : ℕ) → Verdict
+verdictFrom s menu q from j = verdictAt s menu (irqAfter step line (j - from) q) j
+
+-- the same line and the same mark
+abbrev pub sameVerdict : Verdict → Verdict → Bool
+sameVerdict a b = eqb (a .line) (b .line) && eqb (a .mark) (b .mark)
+
+-- the run of a sweep of n clocks that starts at a clock
+pub record RunOf (s : Sweep) (menu : List ℕ) (q : VrcIrq) (from n : ℕ) (r : Run) : Type 0 where
+  pub onward : from < r .to
+  pub within : r .to ≤ n
+  -- its verdict is the first clock's
+  pub verdict : r .verdict ≡ verdictFrom s menu q from from
+  -- every clock of it has that verdict
+  pub same : (j : ℕ) → from ≤ j → j < r .to → sameVerdict (verdictFrom s menu q from from) (verdictFrom s menu q from j) ≡ true
+  -- it ends with the sweep, or where the verdict is another
+  pub ends : (r .to ≡ n) ⊎ (sameVerdict (verdictFrom s menu q from from) (verdictFrom s menu q from (r .to)) ≡ false)
+  -- the counter behind it
+  pub counter : r .irq ≡ irqAfter step line (r .to - from) q
