@@ -3,3 +3,4 @@ pub mod Comes
 pub mod Least
 pub mod Runs
 pub mod Walks
+pub mod Slots

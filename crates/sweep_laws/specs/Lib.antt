@@ -1,3 +1,4 @@
+pub mod Banks
 pub mod Counter
 pub mod Laws
 pub mod Rises
