@@ -1,5 +1,6 @@
 pub mod Columns
-pub mod Counting
 pub mod Handling
 pub mod Running
 pub mod Screen
+pub mod Tallying
+pub mod Waiting

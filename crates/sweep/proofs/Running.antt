@@ -1,21 +1,26 @@
 -- A run of clocks with one verdict, one clock after the other. Assumes nothing.
 use mathlib.Core.Path.{_≡_, refl, sym, ap, subst, _∙_}
-use mathlib.Core.Bool.{Bool, true, false, not, _&&_, false≢true}
+use mathlib.Core.Bool.{Bool, true, false, cond, not, _&&_, false≢true}
 use mathlib.Core.List.{List}
 use mathlib.Core.Logic.{inl, inr}
 use Prim.Native.Nat.{ℕ, suc, _+_, _-_, _≤_, _<_}
 use native.Mathlib.Omega.{arith}
-use lib.Dec.{eqb, leb}
-use borrow.Author.Tests.{leb-true, leb-false, eq-eqb}
-use Rattle.basics.proofs.Tests.{both, tested}
+use lib.Dec.{eqb, leb, ltb}
+use borrow.Author.Tests.{leb-true, leb-false, eq-eqb, eqb-true}
+use Rattle.basics.proofs.Tests.{and-left, and-right, both, either, tested}
 use Rattle.steps.specs.Times.{times}
 use Rattle.vrc_irq.specs.declared.VrcIrq.{VrcIrq}
 use Rattle.vrc_irq.specs.declared.IrqClocked.{IrqClocked}
 use Rattle.vrc_irq.specs.Board.{step, line, clockAnswer}
 use Rattle.vrc_irq.specs.Clocks.{irqAfter}
+use Rattle.sweep.specs.declared.moment.Came.{Came}
+use Rattle.sweep.specs.declared.moment.Came.the-variants.{Never, On}
 use Rattle.sweep.specs.declared.runs.Sweep.{Sweep}
 use Rattle.sweep.specs.declared.runs.Run.{Run}
 use Rattle.sweep.specs.declared.verdict.Verdict.{Verdict}
+use Rattle.sweep.specs.Lines.{lineOf}
+use Rattle.sweep.specs.Moments.{came, moment}
+use Rattle.sweep.specs.Verdicts.{onLine, verdictOf}
 use Rattle.sweep.specs.Runs.{RunOf, sameVerdict, verdictAt, verdictFrom}
 
 -- a test that is asked the other way round
@@ -27,10 +32,50 @@ pub other-false : (b : Bool) → not b ≡ false → b ≡ true
 other-false true e = refl
 other-false false e = absurd (false≢true (sym e))
 
+-- ---- verdicts of one sweep with the same line and the same mark are the same
+line-told : (l window : ℕ) → onLine l window .line ≡ l
+line-told l window =
+    either (λ (v : Verdict). v .line ≡ l) (ltb l window) refl (either (λ (v : Verdict). v .line ≡ l) (ltb window l) refl refl)
+
+mark-low : (l window : ℕ) → onLine l window .mark ≤ 2
+mark-low l window =
+    either (λ (v : Verdict). v .mark ≤ 2) (ltb l window) (omega arith)
+    (either (λ (v : Verdict). v .mark ≤ 2) (ltb window l) (omega arith) (omega arith))
+
+module _ (p window : ℕ) where
+  same-line : (a b : Verdict) → sameVerdict a b ≡ true → a .line ≡ b .line
+  same-line a b h = eqb-true (a .line) (b .line) (and-left (eqb (a .line) (b .line)) (eqb (a .mark) (b .mark)) h)
+
+  same-mark : (a b : Verdict) → sameVerdict a b ≡ true → a .mark ≡ b .mark
+  same-mark a b h = eqb-true (a .mark) (b .mark) (and-right (eqb (a .line) (b .line)) (eqb (a .mark) (b .mark)) h)
+
+  agree : (a b : Came) → sameVerdict (verdictOf a p window) (verdictOf b p window) ≡ true → verdictOf a p window ≡ verdictOf b p window
+  agree Never Never h = refl
+  agree Never (On u) h =
+      absurd (omega (arith, same-mark (verdictOf Never p window) (onLine (lineOf u p) window) h, mark-low (lineOf u p) window))
+  agree (On t) Never h =
+      absurd (omega (arith, same-mark (onLine (lineOf t p) window) (verdictOf Never p window) h, mark-low (lineOf t p) window))
+  agree (On t) (On u) h =
+      ap (λ (l : ℕ). onLine l window)
+      (sym (line-told (lineOf t p) window)
+      ∙ same-line (onLine (lineOf t p) window) (onLine (lineOf u p) window) h
+      ∙ line-told (lineOf u p) window)
+
+itself : (v : Verdict) → sameVerdict v v ≡ true
+itself v = both (eq-eqb (v .line) (v .line) refl) (eq-eqb (v .mark) (v .mark) refl)
+
+-- another verdict, by the test
+differ : (a b : Verdict) → sameVerdict a b ≡ false → b ≡ a → ⊥
+differ a b h e = false≢true (sym h ∙ ap (sameVerdict a) e ∙ itself a)
+
 module _ (s : Sweep) (menu : List ℕ) (q : VrcIrq) (from n : ℕ) where
   -- the verdict at a clock
   abbrev at : ℕ → Verdict
   at j = verdictFrom s menu q from j
+
+  -- when the interrupt comes, if the menu runs at a clock
+  abbrev cameBy : ℕ → Came
+  cameBy j = came (s .«revision_b») menu (moment (irqAfter step line (j - from) q) j)
 
   -- the clocks up to before k have one verdict
   pub record Going (verdict : Verdict) (now : VrcIrq) (k : ℕ) : Type 0 where
@@ -38,7 +83,7 @@ module _ (s : Sweep) (menu : List ℕ) (q : VrcIrq) (from n : ℕ) where
     pub within : k ≤ n
     pub first : verdict ≡ at from
     pub state : now ≡ irqAfter step line (k - from) q
-    pub same : (j : ℕ) → from ≤ j → j < k → sameVerdict (at from) (at j) ≡ true
+    pub same : (j : ℕ) → from ≤ j → j < k → at j ≡ verdict
 
   -- no clock has gone by
   here : q ≡ irqAfter step line (from - from) q
@@ -67,9 +112,6 @@ module _ (s : Sweep) (menu : List ℕ) (q : VrcIrq) (from n : ℕ) where
       told : b ≡ sameVerdict (at from) (at k)
       told = t ∙ ap (λ (v : Verdict). sameVerdict v other) (g .first) ∙ ap (sameVerdict (at from)) (seen other e)
 
-      itself : (v : Verdict) → sameVerdict v v ≡ true
-      itself v = both (eq-eqb (v .line) (v .line) refl) (eq-eqb (v .mark) (v .mark) refl)
-
       -- the first clock's verdict is its own
       moved : b ≡ false → from < k
       moved f =
@@ -82,9 +124,8 @@ module _ (s : Sweep) (menu : List ℕ) (q : VrcIrq) (from n : ℕ) where
           record {
             onward = moved f;
             within = omega arith;
-            verdict = g .first;
             same = g .same;
-            ends = inr (sym told ∙ f);
+            ends = inr (λ e. differ (at from) (at k) (sym told ∙ f) (e ∙ g .first));
             counter = g .state;
           }
 
@@ -106,10 +147,13 @@ module _ (s : Sweep) (menu : List ℕ) (q : VrcIrq) (from n : ℕ) where
           next : suc (k - from) ≡ k + 1 - from
           next = omega (arith, g .behind)
 
-          upto : (j : ℕ) → from ≤ j → j < k + 1 → sameVerdict (at from) (at j) ≡ true
+          alike : at k ≡ verdict
+          alike = sym (g .first ∙ agree (s .prescaler) (s .window) (cameBy from) (cameBy k) (sym told ∙ f))
+
+          upto : (j : ℕ) → from ≤ j → j < k + 1 → at j ≡ verdict
           upto j x y =
               tested (leb k j)
-              (λ i. ap (λ (m : ℕ). sameVerdict (at from) (at m)) (omega (arith, leb-true k j i)) ∙ sym told ∙ f)
+              (λ i. ap at (omega (arith, leb-true k j i)) ∙ alike)
               (λ i. g .same j x (leb-false k j i))
 
     pub all : from < n → n ≤ k → RunOf s menu q from n (record { verdict = verdict; to = k; irq = now })
@@ -117,7 +161,6 @@ module _ (s : Sweep) (menu : List ℕ) (q : VrcIrq) (from n : ℕ) where
         record {
           onward = omega arith;
           within = g .within;
-          verdict = g .first;
           same = g .same;
           ends = inl (omega (arith, g .within));
           counter = g .state;

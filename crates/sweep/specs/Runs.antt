@@ -22,7 +22,7 @@ verdictAt s menu q k = verdictOf (came (s .«revision_b») menu (moment q k)) (s
 abbrev pub verdictFrom : Sweep → List ℕ → VrcIrq → (from j : ℕ) → Verdict
 verdictFrom s menu q from j = verdictAt s menu (irqAfter step line (j - from) q) j
 
--- the same line and the same mark
+-- the same line and the same mark: of verdicts of one sweep, the same verdict
 abbrev pub sameVerdict : Verdict → Verdict → Bool
 sameVerdict a b = eqb (a .line) (b .line) && eqb (a .mark) (b .mark)
 
@@ -30,11 +30,9 @@ sameVerdict a b = eqb (a .line) (b .line) && eqb (a .mark) (b .mark)
 pub record RunOf (s : Sweep) (menu : List ℕ) (q : VrcIrq) (from n : ℕ) (r : Run) : Type 0 where
   pub onward : from < r .to
   pub within : r .to ≤ n
-  -- its verdict is the first clock's
-  pub verdict : r .verdict ≡ verdictFrom s menu q from from
   -- every clock of it has that verdict
-  pub same : (j : ℕ) → from ≤ j → j < r .to → sameVerdict (verdictFrom s menu q from from) (verdictFrom s menu q from j) ≡ true
+  pub same : (j : ℕ) → from ≤ j → j < r .to → verdictFrom s menu q from j ≡ r .verdict
   -- it ends with the sweep, or where the verdict is another
-  pub ends : (r .to ≡ n) ⊎ (sameVerdict (verdictFrom s menu q from from) (verdictFrom s menu q from (r .to)) ≡ false)
+  pub ends : (r .to ≡ n) ⊎ (verdictFrom s menu q from (r .to) ≡ r .verdict → ⊥)
   -- the counter behind it
   pub counter : r .irq ≡ irqAfter step line (r .to - from) q

@@ -3,11 +3,17 @@ use engine::writes::irq_written;
 use sheet::Step;
 use sheet::step::step_coded;
 use vrc_irq::IrqForecast;
+use vrc_irq::LINE;
+use vrc_irq::STEP;
 use vrc_irq::VrcIrq;
 ghost use mathlib.Core.Path.{_≡_};
+ghost use mathlib.Core.Bool.{false};
+ghost use Prim.Native.Nat.{_+_, _≤_};
 ghost use Rattle.vrc_irq.specs.Board.{step, line};
 ghost use Rattle.vrc_irq.specs.Clocks.{irqAfter};
-ghost use Rattle.sweep.specs.Moments.{came, due, ended, moment, stepped, waited};
+ghost use Rattle.vrc_irq.specs.Interrupt.{irqAt};
+ghost use Rattle.sweep.specs.Moments.{came, due, dueWithin, ended, moment, stepped, waited};
+ghost use Rattle.sweep.specs.Waits.{LinesGo};
 
 // The counter, the clocks since the end of the writes, and whether the interrupt has come, which then was on that clock.
 pub struct Moment {
@@ -37,21 +43,48 @@ pub fn clocks_due(irq: VrcIrq) -> u32
     }
 }
 
-// The counter after n clocks. One that is not enabled stays as it is.
+// The counter that has gained ticks, with another prescaler.
+fn gained(irq: VrcIrq, ticks: u32, prescaler: u32) -> VrcIrq
+    requires { ⌜ (irq .counter + ticks ≤ 255) × (prescaler ≤ 65535) ⌝ }
+    ensures { λ r. ⌜ r ≡ irqAt irq (irq .counter + ticks) prescaler (irq .«irq_pending») ⌝ }
+{
+    let mut q = irq;
+    q.counter = irq.counter + (ticks as u8);
+    q.prescalar_counter = prescaler as u16;
+    q
+}
+
+// The counter after n clocks that count lines. A division tells the lines that end within them.
+fn lines_gone(irq: VrcIrq, n: u32) -> VrcIrq
+    requires { ⌜ LinesGo irq n ⌝ }
+    ensures { λ r. ⌜ r ≡ irqAfter step line n irq ⌝ }
+{
+    let given = irq.prescalar_counter as u32;
+    let fallen = (STEP as u32) * n;
+    let line = LINE as u32;
+    if fallen < given {
+        return gained(irq, 0, given - fallen);
+    }
+    let ticks = (fallen - given) / line + 1;
+    gained(irq, ticks, given + line * ticks - fallen)
+}
+
+// The counter after n clocks, none of which sets pending.
 fn clock_times(irq: VrcIrq, n: u32) -> VrcIrq
+    requires { ⌜ dueWithin n (due irq) ≡ false ⌝ }
     ensures { λ r. ⌜ r ≡ irqAfter step line n irq ⌝ }
 {
     let armed = irq.enabled;
-    let mut q = irq;
     if armed {
-        let mut i: u32 = 0;
-        while i < n {
-            let next = q.clock();
-            q = next.irq;
-            i += 1;
+        if n == 0 {
+            return irq;
         }
+        if irq.cycle_mode {
+            return gained(irq, n, irq.prescalar_counter as u32);
+        }
+        return lines_gone(irq, n);
     }
-    q
+    irq
 }
 
 // Clocks that the handler waits. The interrupt may come in the midst of them.

@@ -31,6 +31,7 @@ use Rattle.ledger.specs.Ledger.{event}
 use Rattle.ledger.specs.Demand3.{weight}
 use Rattle.sweep_laws.specs.Counter.{counterAfter}
 use Rattle.sweep.specs.Moments.{due, dueFrom, dueWithin}
+use Rattle.sweep.proofs.Waiting.{beyond}
 use Rattle.sweep_laws.proofs.Least.{due-law}
 
 -- ---- the counters that a board can hold
@@ -137,10 +138,6 @@ module _ (b : Bool) where
 -- ---- what is due
 pub within : (n d : ℕ) → dueWithin n d ≡ true → d ≤ n
 within n d h = leb-true d n (and-right (not (eqb d 0)) (leb d n) h)
-
-beyond : (n d : ℕ) → 1 ≤ d → dueWithin n d ≡ false → n < d
-beyond n d l h =
-    leb-false d n (ap (λ (b : Bool). not b && leb d n) (sym (ne-eqb d 0 (λ z. omega arith))) ∙ h)
 
 module _ (q : VrcIrq) (f : Fine q) where
   -- an interrupt that is due is due while enabled

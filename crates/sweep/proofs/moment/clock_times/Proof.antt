@@ -1,51 +1,46 @@
 -- `clock_times` meets its contract. Assumes nothing.
-use mathlib.Core.Path.{sym}
-use Prim.Native.Nat.{_-_}
+use mathlib.Core.Path.{refl, sym, ap, _∙_}
+use Prim.Native.Nat.{ℕ}
 use native.Mathlib.Omega.{arith}
-use borrow.Author.Needs.{needs}
+use Rattle.steps.specs.Times.{times}
 use Rattle.vrc_irq.specs.Board.{step, line}
+use Rattle.vrc_irq.specs.Clocks.{irqAfter}
 use Rattle.vrc_irq.proofs.Runs.{idle-law}
-use Rattle.sweep.proofs.Counting.{Done, none, more, all}
+use Rattle.sweep.proofs.Waiting.{cycles-low, by-cycles}
+use borrow.Author.Needs.{needs}
 use Rattle.sweep.proofs.moment.clock_times.Statement.{statement}
 use Rattle.sweep.proofs.moment.clock_times.Tie as tie
 
-abbrev Inv-loop : tie.InvT-loop
-Inv-loop n armed q₀ i₀ q i = Done n q₀ q i
+returns : tie.Need-returns
+unfolding times
+returns c = sym (ap (λ (m : ℕ). irqAfter step line m (c .before .before .args .irq)) (c .if2 .taken))
 
-abbrev μ-loop : tie.MeasureT-loop
-μ-loop n armed q₀ i₀ q i = n - i
+cast-gained : tie.Need-cast-gained
+cast-gained c = search needs
 
-loop-holds : tie.Need-loop-holds Inv-loop μ-loop
-loop-holds c = none _ _
+gained-requires : tie.Need-gained-requires
+gained-requires c κs = (cycles-low (c .before .before .before .before .args .irq) _ (c .before .before .before .if1 .taken) (omega (arith, c .before .before .if2 .left)) (c .before .before .before .before .pre) (c .before .if3 .taken), search needs)
 
-clock-requires : tie.Need-clock-requires Inv-loop μ-loop
-clock-requires c κs = tt
+returns-2 : tie.Need-returns-2
+returns-2 c = c .gained .ensures ∙ by-cycles _ _ (c .before .before .before .before .if1 .taken) (omega (arith, c .before .before .before .if2 .left)) (c .before .before .before .before .before .pre) (c .before .before .if3 .taken)
 
-add-i : tie.Need-add-i Inv-loop μ-loop
-add-i c = search needs
+lines-gone-requires : tie.Need-lines-gone-requires
+lines-gone-requires c κs = record { counts = rw (c .before .before .if1 .taken, c .if3 .left); some = omega (arith, c .before .if2 .left); quiet = c .before .before .before .pre }
 
-loop-less : tie.Need-loop-less Inv-loop μ-loop
-loop-less c = search needs
+returns-3 : tie.Need-returns-3
+returns-3 c = search needs
 
-loop-again : tie.Need-loop-again Inv-loop μ-loop
-loop-again c = more _ _ _ _ _ (c .before .before .before .loop .inv) (omega (arith, c .before .before .loop-test .taken)) (c .before .clock .ensures)
-
-returns : tie.Need-returns Inv-loop μ-loop
-returns c = all _ _ _ _ (c .before .loop .inv) (c .loop-test .left)
-
-returns-2 : tie.Need-returns-2 Inv-loop μ-loop
-returns-2 c = sym (idle-law step line (c .before .args .irq) (c .before .args .n) (c .if1 .left) .1)
+returns-4 : tie.Need-returns-4
+returns-4 c = sym (idle-law step line (c .before .args .irq) (c .before .args .n) (c .if1 .left) .1)
 
 pub clock-times-spec : {M : Type 1} → statement M
 clock-times-spec =
     tie.close
     (tie.spec
-    Inv-loop
-    μ-loop
-    loop-holds
-    clock-requires
-    add-i
-    loop-less
-    loop-again
     returns
-    returns-2)
+    cast-gained
+    gained-requires
+    returns-2
+    lines-gone-requires
+    returns-3
+    returns-4)

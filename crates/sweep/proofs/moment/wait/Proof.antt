@@ -1,4 +1,6 @@
 -- `wait` meets its contract. Assumes nothing.
+use mathlib.Core.Path.{sym, ap, _∙_}
+use Rattle.sweep.specs.Moments.{dueWithin}
 use Rattle.sweep.proofs.Handling.{comes, goes-by}
 use borrow.Author.Needs.{needs}
 use Rattle.sweep.proofs.moment.wait.Statement.{statement}
@@ -14,7 +16,7 @@ returns : tie.Need-returns
 returns c = comes (c .before .before .before .args .irq) _ _ _ _ (c .before .before .clocks-due .ensures) (c .before .if1 .taken) (c .wrapping-add-u32 .ensures)
 
 clock-times-requires : tie.Need-clock-times-requires
-clock-times-requires c κs = search needs
+clock-times-requires c κs = ap (dueWithin (c .before .before .args .n)) (sym (c .before .clocks-due .ensures)) ∙ c .if1 .left
 
 wrapping-add-u32-requires-2 : tie.Need-wrapping-add-u32-requires-2
 wrapping-add-u32-requires-2 c κs = search needs
