@@ -1,3 +1,4 @@
 pub mod Codes
+pub mod Ranges
 pub mod Rows
 pub mod Said

@@ -1,13 +1,13 @@
--- A step's number keeps the step, and examples of what the definitions give. Assumes nothing.
+-- A step's number keeps the step, every word's step has such a number, and examples of what the definitions give. Assumes nothing.
 use mathlib.Core.Path.{_≡_}
-use mathlib.Core.List.{[], _∷_}
-use Prim.Native.Nat.{_<_}
+use mathlib.Core.List.{List, [], _∷_}
+use Prim.Native.Nat.{ℕ, _≤_, _<_}
 use Rattle.sheet.specs.declared.letters.Pair.the-variants as pair
 use Rattle.sheet.specs.declared.letters.Pair.the-variants.{Letter}
 use Rattle.sheet.specs.declared.step.Step.{Step}
 use Rattle.sheet.specs.declared.step.Step.the-variants.{Write, Clocks, Reset, Wrong}
 use Rattle.sheet.specs.Letters.{pairOf}
-use Rattle.sheet.specs.Steps.{codeOf, stepCoded, stepOf}
+use Rattle.sheet.specs.Steps.{codeOf, stepCoded, stepOf, waitOf}
 
 -- a step that its number has room for
 abbrev pub InRange : Step → Type 0
@@ -19,6 +19,15 @@ InRange (Wrong n) = n < 256
 -- a step read back from its number is the same
 abbrev pub CodeLaw : Type 0
 CodeLaw = (s : Step) → InRange s → stepCoded (codeOf s) ≡ s
+
+-- what a word says: its number has room for it, and it waits 1,000,000 clocks at most
+pub record Said (s : Step) : Type 0 where
+  pub in-range : InRange s
+  pub wait : waitOf s ≤ 1_000_000
+
+-- the same for every word
+abbrev pub SaidLaw : Type 0
+SaidLaw = (w : List ℕ) → Said (stepOf w)
 
 -- words with the numbers of their ASCII codes
 pub record Examples : Type 0 where

@@ -43,6 +43,13 @@ stepOf w =
     (cond (eqb (length (fromMark 61 w)) 0) (Wrong 7)
     (writeFrom (numberOf 16 65_535 (beforeMark 61 w)) (numberOf 16 255 (behindMark 61 w))))))
 
+-- the clocks that a step waits
+abbrev pub waitOf : Step → ℕ
+waitOf (Write a v) = 0
+waitOf (Clocks n) = n
+waitOf Reset = 0
+waitOf (Wrong n) = 0
+
 -- a step as one number: its kind above 24 bits, what it carries below
 abbrev pub codeOf : Step → ℕ
 codeOf (Write a v) = a * 256 + v

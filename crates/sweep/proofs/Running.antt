@@ -9,6 +9,7 @@ use lib.Dec.{eqb, leb, ltb}
 use borrow.Author.Tests.{leb-true, leb-false, eq-eqb, eqb-true}
 use Rattle.basics.proofs.Tests.{and-left, and-right, both, either, tested}
 use Rattle.steps.specs.Times.{times}
+use Rattle.steps.proofs.Iterated.{times-add}
 use Rattle.vrc_irq.specs.declared.VrcIrq.{VrcIrq}
 use Rattle.vrc_irq.specs.declared.IrqClocked.{IrqClocked}
 use Rattle.vrc_irq.specs.Board.{step, line, clockAnswer}
@@ -21,7 +22,7 @@ use Rattle.sweep.specs.declared.verdict.Verdict.{Verdict}
 use Rattle.sweep.specs.Lines.{lineOf}
 use Rattle.sweep.specs.Moments.{came, moment}
 use Rattle.sweep.specs.Verdicts.{onLine, verdictOf}
-use Rattle.sweep.specs.Runs.{RunOf, sameVerdict, verdictAt, verdictFrom}
+use Rattle.sweep.specs.Runs.{RunOf, sameVerdict, verdictAt, verdictFrom, verdictIn}
 
 -- a test that is asked the other way round
 pub other-true : (b : Bool) → not b ≡ true → b ≡ false
@@ -165,3 +166,18 @@ module _ (s : Sweep) (menu : List ℕ) (q : VrcIrq) (from n : ℕ) where
           ends = inl (omega (arith, g .within));
           counter = g .state;
         }
+
+-- ---- in a whole sweep
+pub from-start : (s : Sweep) (menu : List ℕ) (q : VrcIrq) (from j : ℕ) → from ≤ j
+    → verdictFrom s menu (irqAfter step line from q) from j ≡ verdictIn s menu q j
+from-start s menu q from j h =
+    ap (λ (p : VrcIrq). verdictAt s menu p j)
+    (times-add (λ (p : VrcIrq). clockAnswer p .irq) q from (j - from) ∙ ap (λ (m : ℕ). irqAfter step line m q) whole)
+  where
+    whole : from + (j - from) ≡ j
+    whole = omega arith
+
+-- the clocks of a run, in the sweep that starts at clock 0
+pub in-sweep : (s : Sweep) (menu : List ℕ) (q : VrcIrq) (from n : ℕ) (r : Run) → RunOf s menu (irqAfter step line from q) from n r
+    → (j : ℕ) → from ≤ j → j < r .to → verdictIn s menu q j ≡ r .verdict
+in-sweep s menu q from n r run j low high = sym (from-start s menu q from j low) ∙ run .same j low high

@@ -18,6 +18,10 @@ use Rattle.sweep.specs.Verdicts.{verdictOf}
 abbrev pub verdictAt : Sweep → List ℕ → VrcIrq → (k : ℕ) → Verdict
 verdictAt s menu q k = verdictOf (came (s .«revision_b») menu (moment q k)) (s .prescaler) (s .window)
 
+-- the verdict at clock k of a sweep, from the counter at clock 0
+abbrev pub verdictIn : Sweep → List ℕ → VrcIrq → (k : ℕ) → Verdict
+verdictIn s menu q k = verdictAt s menu (irqAfter step line k q) k
+
 -- the verdict at clock j, from the counter at an earlier clock
 abbrev pub verdictFrom : Sweep → List ℕ → VrcIrq → (from j : ℕ) → Verdict
 verdictFrom s menu q from j = verdictAt s menu (irqAfter step line (j - from) q) j

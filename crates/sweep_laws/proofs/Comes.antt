@@ -69,7 +69,7 @@ fine-after b ReadLevel q h f = f
 fine-after b (PageView a) q h f = f
 fine-after b ReadForecast q h f = f
 
-fine-behind : (ws : List Call) (x : State) → Accepted x ws → Each OfByte ws → Fine (x .board .irq) → Fine (after x ws .board .irq)
+pub fine-behind : (ws : List Call) (x : State) → Accepted x ws → Each OfByte ws → Fine (x .board .irq) → Fine (after x ws .board .irq)
 fine-behind [] x h o f = f
 fine-behind (w ∷ ws) x h o f =
     fine-behind ws (next x w) (h .1) (o .1)
@@ -100,7 +100,7 @@ on-board x k codes m h f w room =
     (told b m codes p k (ready-after k q ready still) room)
 
 -- the counter of a new board
-first-fine : (c : Creation) → create c .refusal ≡ 0 → Fine (start c .board .irq)
+pub first-fine : (c : Creation) → create c .refusal ≡ 0 → Fine (start c .board .irq)
 first-fine c h =
     subst (λ (n : ℕ). Fine (unless n (newBoard (c .layout) (c .mirroring) (c .revision)) zeroBoard .irq)) (sym h) fine-zero
 

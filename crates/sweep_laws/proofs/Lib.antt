@@ -2,5 +2,6 @@ pub mod Boarded
 pub mod Comes
 pub mod Least
 pub mod Runs
-pub mod Walks
 pub mod Slots
+pub mod Sweeping
+pub mod Walks

@@ -2,3 +2,4 @@ pub mod Banks
 pub mod Counter
 pub mod Laws
 pub mod Rises
+pub mod Sweeps

@@ -1,0 +1,67 @@
+-- Each clock of a run has the run's verdict on the board. Assumes nothing.
+use mathlib.Core.Path.{_≡_, sym, subst}
+use mathlib.Core.Bool.{false}
+use mathlib.Core.List.{List, [], _∷_}
+use Prim.Native.Nat.{ℕ, _*_, _≤_, _<_}
+use native.Mathlib.Omega.{arith}
+use lib.ListN.{length}
+use borrow.Author.Tests.{lt-leb, ne-eqb}
+use Rattle.vrc_irq.specs.declared.VrcIrq.{VrcIrq}
+use Rattle.vrc6.specs.Boards.{State}
+use Rattle.calls.specs.Lists.{after}
+use Rattle.ledger.specs.Demand3.{clockCount, start}
+use Rattle.ledger.proofs.Whole.{demand3}
+use Rattle.sheet.specs.declared.step.Step.{Step}
+use Rattle.sheet.specs.declared.step.Step.the-variants.{Write, Clocks, Reset, Wrong}
+use Rattle.sheet.specs.Steps.{codeOf, stepCoded, stepOf, waitOf}
+use Rattle.sheet.proofs.Codes.{code-law}
+use Rattle.sheet.proofs.Ranges.{said-law}
+use Rattle.sweep.specs.Moments.{due}
+use Rattle.sweep.proofs.Running.{in-sweep}
+use Rattle.sweep_laws.specs.Rises.{Waits, cameAt, handlerCalls, stepCalls}
+use Rattle.sweep_laws.specs.Laws.{Comes}
+use Rattle.sweep_laws.specs.Sweeps.{SweepLaw, menuCodes, sweepFrom}
+use Rattle.sweep_laws.proofs.Comes.{came-law, fine-behind, first-fine}
+use Rattle.sweep_laws.proofs.Runs.{Fine, due-low}
+use Rattle.sweep_laws.proofs.Walks.{count-joined, count-run}
+
+-- ---- a menu's clocks fit 32 bits
+waits : (s : Step) → clockCount (stepCalls s) ≡ waitOf s
+waits (Write a v) = omega arith
+waits (Clocks n) = count-run n
+waits Reset = omega arith
+waits (Wrong n) = omega arith
+
+word-waits : (w : List ℕ) → clockCount (stepCalls (stepCoded (codeOf (stepOf w)))) ≤ 1_000_000
+word-waits w =
+    subst (λ (s : Step). clockCount (stepCalls s) ≤ 1_000_000) (sym (code-law (stepOf w) (said-law w .in-range)))
+    (omega (arith, waits (stepOf w), said-law w .wait))
+
+menu-waits : (words : List (List ℕ)) → clockCount (handlerCalls (menuCodes words)) ≤ 1_000_000 * length words
+menu-waits [] = omega arith
+menu-waits (w ∷ words) =
+    omega (
+      arith,
+      count-joined (stepCalls (stepCoded (codeOf (stepOf w)))) (handlerCalls (menuCodes words)),
+      word-waits w,
+      menu-waits words,
+    )
+
+-- ---- a clock before the interrupt
+waits-still : (q : VrcIrq) (j : ℕ) → q .«irq_pending» ≡ false → j < due q → Waits q j
+waits-still q j clear h =
+    record { clear = clear; not-yet = rw (ne-eqb (due q) 0 (λ z. omega arith), lt-leb (due q) j h) }
+
+pub sweep-law : SweepLaw
+sweep-law c h ws o x e clear words few window from r run j low high m =
+    let q = x .board .irq in
+    let fine : Fine q = subst (λ (y : State). Fine (y .board .irq)) (sym e) (fine-behind ws (start c) (demand3 c h ws .accepted) o (first-fine c h)) in
+    let soon : j < due q = omega (arith, run .within) in
+    let still : Waits (after (start c) ws .board .irq) j = subst (λ (y : State). Waits (y .board .irq) j) e (waits-still q j clear soon) in
+    record {
+      came = cameAt (x .board .banking .revision) q j (menuCodes words);
+      found =
+          subst (λ (y : State). Comes y j (menuCodes words) m) (sym e)
+          (came-law c h ws o j still (menuCodes words) (omega (arith, menu-waits words, due-low q fine)) m);
+      verdict = in-sweep (sweepFrom x window) (menuCodes words) q from (due q) r run j low high;
+    }

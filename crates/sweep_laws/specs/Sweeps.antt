@@ -1,0 +1,47 @@
+-- What the runs of a sweep say, on the board. `proofs/` proves it. Assumes nothing.
+use mathlib.Core.Path.{_≡_}
+use mathlib.Core.Bool.{false}
+use mathlib.Core.List.{List, map}
+use Prim.Native.Nat.{ℕ, _≤_, _<_}
+use lib.ListN.{length}
+use Rattle.vrc_irq.specs.Board.{step, line}
+use Rattle.vrc_irq.specs.Clocks.{irqAfter}
+use Rattle.calls.specs.declared.Call.{Call}
+use Rattle.vrc6.specs.Boards.{State, Creation}
+use Rattle.vrc6.specs.Calls.{create}
+use Rattle.calls.specs.Lists.{after}
+use Rattle.ledger.specs.Demand3.{Each, clockCount, start}
+use Rattle.sheet.specs.Steps.{codeOf, stepOf}
+use Rattle.sweep.specs.declared.moment.Came.{Came}
+use Rattle.sweep.specs.declared.runs.Run.{Run}
+use Rattle.sweep.specs.declared.runs.Sweep.{Sweep}
+use Rattle.sweep.specs.declared.verdict.Verdict.{Verdict}
+use Rattle.sweep.specs.Moments.{due}
+use Rattle.sweep.specs.Runs.{RunOf}
+use Rattle.sweep.specs.Verdicts.{verdictOf}
+use Rattle.sweep_laws.specs.Rises.{Found, OfByte, risesAt, runAt}
+
+-- the steps of a menu's words, as their numbers
+abbrev pub menuCodes : (words : List (List ℕ)) → List ℕ
+menuCodes words = map (λ w. codeOf (stepOf w)) words
+
+-- the sweep from a board at the end of the writes
+abbrev pub sweepFrom : State → (window : ℕ) → Sweep
+sweepFrom x window =
+    record { prescaler = x .board .irq .«prescalar_counter»; «revision_b» = x .board .banking .revision; window = window }
+
+-- a board that is clocked j times, makes the menu's calls and is clocked m times has verdict v: by the clock on which pending is first set,
+-- if these clocks get that far
+pub record HasVerdict (x : State) (j : ℕ) (codes : List ℕ) (m window : ℕ) (v : Verdict) : Type 0 where
+  pub came : Came
+  pub found : Found came (clockCount (runAt j codes m)) (risesAt x (runAt j codes m) 0)
+  pub verdict : verdictOf came (x .board .irq .«prescalar_counter») window ≡ v
+
+-- of every accepted creation, every list of calls before that leaves pending clear, every menu of up to 4,096 words, every line that is
+-- right and every run that the contract of `Sweep::run` allows: each clock of the run has the run's verdict on the board
+abbrev pub SweepLaw : Type 0
+SweepLaw =
+    (c : Creation) → create c .refusal ≡ 0 → (ws : List Call) → Each OfByte ws → (x : State) → x ≡ after (start c) ws
+    → x .board .irq .«irq_pending» ≡ false → (words : List (List ℕ)) → length words ≤ 4_096 → (window from : ℕ) (r : Run)
+    → RunOf (sweepFrom x window) (menuCodes words) (irqAfter step line from (x .board .irq)) from (due (x .board .irq)) r
+    → (j : ℕ) → from ≤ j → j < r .to → (m : ℕ) → HasVerdict x j (menuCodes words) m window (r .verdict)
