@@ -73,3 +73,7 @@ ended m = cond (m .came) (On (m .clock)) (comingIn (m .clock) (due (m .irq)))
 -- the interrupt's clock, if a handler of these steps runs at a moment
 abbrev pub came : (revisionB : Bool) → List ℕ → Moment → Came
 came b codes m = ended (played b codes m)
+
+-- the interrupt's clock, if no handler runs; one that is pending already came at clock 0
+abbrev pub cameAlone : VrcIrq → Came
+cameAlone q = cond (q .«irq_pending») (On 0) (ended (moment q 0))

@@ -12,7 +12,7 @@ ghost use Prim.Native.Nat.{_+_, _≤_};
 ghost use Rattle.vrc_irq.specs.Board.{step, line};
 ghost use Rattle.vrc_irq.specs.Clocks.{irqAfter};
 ghost use Rattle.vrc_irq.specs.Interrupt.{irqAt};
-ghost use Rattle.sweep.specs.Moments.{came, due, dueWithin, ended, moment, stepped, waited};
+ghost use Rattle.sweep.specs.Moments.{came, cameAlone, due, dueWithin, ended, moment, stepped, waited};
 ghost use Rattle.sweep.specs.Waits.{LinesGo};
 
 // The counter, the clocks since the end of the writes, and whether the interrupt has come, which then was on that clock.
@@ -160,5 +160,20 @@ pub fn came_after(irq: VrcIrq, clock: u32, revision: bool, codes: &[u32]) -> Cam
         m = m.play(revision, step_coded(codes[i]));
         i += 1;
     }
+    m.end()
+}
+
+// When the interrupt comes if no handler runs. One that is pending already came at clock 0.
+pub fn came_alone(irq: VrcIrq) -> Came
+    ensures { λ r. ⌜ r ≡ cameAlone irq ⌝ }
+{
+    if irq.irq_pending {
+        return Came::On(0);
+    }
+    let m = Moment {
+        irq,
+        clock: 0,
+        came: false,
+    };
     m.end()
 }
