@@ -1,12 +1,9 @@
 // The writes of a scene, played on a board of its own. No call is refused on a board that was created: demand3, crate ledger.
 use crate::scene::MOST_STEPS;
 use crate::scene::Scene;
-use calls::Call;
-use calls::step;
 use layout::MemoryLayout;
 use layout::Page;
-use sheet::Step;
-use sheet::step::step_coded;
+use played::play;
 use sweep::shown::bank_shown;
 use told::create_numbered;
 use vrc_irq::VrcIrq;
@@ -17,49 +14,6 @@ pub struct Ended {
     pub irq: VrcIrq,
     pub banks: [u32; 8],
     pub refusal: u8,
-}
-
-fn call(board: Board, fixed: &[u8], changing: &mut [u8], made: Call) -> Board {
-    let stepped = step(board, fixed, changing, made);
-    stepped.board
-}
-
-fn clocks(given: Board, fixed: &[u8], changing: &mut [u8], n: u32) -> Board {
-    let mut board = given;
-    let mut i: u32 = 0;
-    while i < n {
-        board = call(board, fixed, changing, Call::Clock);
-        i += 1;
-    }
-    board
-}
-
-fn play_step(board: Board, fixed: &[u8], changing: &mut [u8], code: u32) -> Board {
-    match step_coded(code) {
-        Step::Write(addr, val) => call(board, fixed, changing, Call::CpuWrite(addr, val)),
-        Step::Clocks(n) => clocks(board, fixed, changing, n),
-        Step::Reset => call(board, fixed, changing, Call::SoftReset),
-        Step::Wrong(_) => board,
-    }
-}
-
-fn play_steps(
-    given: Board,
-    fixed: &[u8],
-    changing: &mut [u8],
-    codes: &[u32; MOST_STEPS],
-    count: usize,
-) -> Board {
-    let mut board = given;
-    let mut i: usize = 0;
-    while i < count {
-        if MOST_STEPS <= i {
-            return board;
-        }
-        board = play_step(board, fixed, changing, codes[i]);
-        i += 1;
-    }
-    board
 }
 
 fn banks_shown(layout: MemoryLayout, pages: [Page; 16]) -> [u32; 8] {
@@ -85,6 +39,15 @@ fn at_end(layout: MemoryLayout, board: Board, refusal: u8) -> Ended {
     }
 }
 
+fn none() -> Ended {
+    Ended {
+        irq: VrcIrq::new(),
+        banks: [0; 8],
+        refusal: 1,
+    }
+}
+
+// A cell with more than MOST_STEPS writes was refused, so the test holds.
 fn play_on(
     scene: Scene,
     layout: MemoryLayout,
@@ -95,16 +58,13 @@ fn play_on(
     let mirroring = (scene.mirroring % 256) as u8;
     let revision = scene.revision_b as u8;
     let created = create_numbered(layout, mirroring, revision, fixed, &*changing);
-    let board = play_steps(created.board, fixed, changing, codes, scene.writes);
-    at_end(layout, board, created.refusal)
-}
-
-fn none() -> Ended {
-    Ended {
-        irq: VrcIrq::new(),
-        banks: [0; 8],
-        refusal: 1,
+    let count = scene.writes;
+    let steps: &[u32] = codes;
+    if count <= steps.len() {
+        let board = play(created.board, fixed, changing, &steps[0..count]);
+        return at_end(layout, board, created.refusal);
     }
+    none()
 }
 
 // PRG RAM and CIRAM are those of layout S. The buffers have room for every layout, so both tests hold.

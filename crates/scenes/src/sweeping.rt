@@ -6,11 +6,12 @@ use output::ROOM;
 use sweep::Run;
 use sweep::Sweep;
 use sweep::Verdict;
-use sweep::bar::first_column;
-use sweep::bar::last_column;
+use sweep::bar::mark;
+use sweep::bar::unmarked;
 use sweep::verdict::NEVER;
 use sweep::verdict::RIGHT;
 use vrc_irq::VrcIrq;
+ghost use Prim.Native.Nat.{_≤_, _<_};
 
 // How many moments were wrong so far, the first of them and the worst, and how many bytes the output buffer holds.
 pub(crate) struct Swept {
@@ -82,27 +83,6 @@ impl Swept {
     }
 }
 
-// The columns from the first clock's to the last one's show a mark, if none of their clocks has a worse one.
-fn mark(bar: &mut [u8; 64], from: u32, last: u32, clocks: u32, mark: u8) {
-    if clocks <= from {
-        return;
-    }
-    if clocks <= last {
-        return;
-    }
-    let end = last_column(last, clocks) as usize;
-    let mut i = first_column(from, clocks) as usize;
-    while i <= end {
-        if 64 <= i {
-            return;
-        }
-        if bar[i] < mark {
-            bar[i] = mark;
-        }
-        i += 1;
-    }
-}
-
 // Tells one run.
 fn tell(
     swept: Swept,
@@ -111,12 +91,13 @@ fn tell(
     clocks: u32,
     bar: &mut [u8; 64],
     out: &mut [u8; ROOM],
-) -> Swept {
+) -> Swept
+    requires { ⌜ (from < run .to) × (run .to ≤ clocks) ⌝ }
+{
     let verdict = run.verdict;
-    let last = std::num::wrapping_sub_u32(run.to, 1);
-    mark(bar, from, last, clocks, verdict.mark);
+    mark(bar, from, run.to, clocks, verdict.mark);
     let mut next = swept.judged(from, run);
-    next.len = put_run(out, swept.len, from, last, verdict);
+    next.len = put_run(out, swept.len, from, run.to - 1, verdict);
     next
 }
 
@@ -129,7 +110,7 @@ pub(crate) fn sweep_clocks(
     out: &mut [u8; ROOM],
     len: usize,
 ) -> Swept {
-    let mut bar = [0u8; 64];
+    let mut bar = unmarked();
     let mut irq = start;
     let mut swept = Swept::new(len);
     let mut from: u32 = 0;

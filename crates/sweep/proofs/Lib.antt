@@ -1,5 +1,6 @@
 pub mod Columns
 pub mod Handling
+pub mod Marking
 pub mod Running
 pub mod Screen
 pub mod Tallying

@@ -19,8 +19,9 @@ use Rattle.calls.specs.Lists.{refusalIn, next, after, answers}
 use Rattle.ledger.specs.Ledger.{event}
 use Rattle.ledger.specs.Demand3.{Each, weight, clockCount, start}
 use Rattle.ledger.proofs.Whole.{demand3}
+use Rattle.played.specs.Played.{callsOf}
 use Rattle.sweep_laws.specs.Counter.{counterAfter}
-use Rattle.sweep_laws.specs.Rises.{OfByte, Waits, cameAt, handlerCalls, risesAt, runAt}
+use Rattle.sweep_laws.specs.Rises.{OfByte, Waits, cameAt, risesAt, runAt}
 use Rattle.sweep_laws.specs.Laws.{Comes, RiseLaw, CameLaw}
 use Rattle.sweep_laws.proofs.Boarded.{counter-law}
 use Rattle.sweep_laws.proofs.Runs.{Fine, Ready, fine-clocked, fine-taken, fine-zero, taken-clear, ready-after, rises, quiet, quiet-due}
@@ -86,12 +87,12 @@ carried (k ∷ ks) x n h =
 
 -- ---- a board that refuses no call of the run
 on-board : (x : State) (k : ℕ) (codes : List ℕ) (m : ℕ) → Accepted x (runAt k codes m) → Fine (x .board .irq) → Waits (x .board .irq) k
-    → k + clockCount (handlerCalls codes) + 100_000 < 2 ^ 32 → Comes x k codes m
+    → k + clockCount (callsOf codes) + 100_000 < 2 ^ 32 → Comes x k codes m
 on-board x k codes m h f w room =
     let b = x .board .banking .revision in
     let q = x .board .irq in
     let p = irqAfter step line k q in
-    let rest = handlerCalls codes ++ replicate m Clock in
+    let rest = callsOf codes ++ replicate m Clock in
     let ready : Ready q = record { fine = f; clear = w .clear } in
     let still = quiet-due q f k (w .not-yet) in
     found-same (cameAt b q k codes) (k + clockCount rest) (clockCount (runAt k codes m)) (rises b p rest k) (risesAt x (runAt k codes m) 0)

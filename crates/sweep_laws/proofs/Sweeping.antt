@@ -16,9 +16,10 @@ use Rattle.sheet.specs.declared.step.Step.the-variants.{Write, Clocks, Reset, W
 use Rattle.sheet.specs.Steps.{codeOf, stepCoded, stepOf, waitOf}
 use Rattle.sheet.proofs.Codes.{code-law}
 use Rattle.sheet.proofs.Ranges.{said-law}
+use Rattle.played.specs.Played.{callsOf, stepCalls}
 use Rattle.sweep.specs.Moments.{due}
 use Rattle.sweep.proofs.Running.{in-sweep}
-use Rattle.sweep_laws.specs.Rises.{Waits, cameAt, handlerCalls, stepCalls}
+use Rattle.sweep_laws.specs.Rises.{Waits, cameAt}
 use Rattle.sweep_laws.specs.Laws.{Comes}
 use Rattle.sweep_laws.specs.Sweeps.{SweepLaw, menuCodes, sweepFrom}
 use Rattle.sweep_laws.proofs.Comes.{came-law, fine-behind, first-fine}
@@ -37,12 +38,12 @@ word-waits w =
     subst (λ (s : Step). clockCount (stepCalls s) ≤ 1_000_000) (sym (code-law (stepOf w) (said-law w .in-range)))
     (omega (arith, waits (stepOf w), said-law w .wait))
 
-menu-waits : (words : List (List ℕ)) → clockCount (handlerCalls (menuCodes words)) ≤ 1_000_000 * length words
+menu-waits : (words : List (List ℕ)) → clockCount (callsOf (menuCodes words)) ≤ 1_000_000 * length words
 menu-waits [] = omega arith
 menu-waits (w ∷ words) =
     omega (
       arith,
-      count-joined (stepCalls (stepCoded (codeOf (stepOf w)))) (handlerCalls (menuCodes words)),
+      count-joined (stepCalls (stepCoded (codeOf (stepOf w)))) (callsOf (menuCodes words)),
       word-waits w,
       menu-waits words,
     )

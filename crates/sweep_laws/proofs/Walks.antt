@@ -24,9 +24,10 @@ use Rattle.sheet.specs.Steps.{stepCoded, stepFrom}
 use Rattle.sweep.specs.declared.moment.Moment.{Moment}
 use Rattle.sweep.specs.declared.moment.Came.{Came}
 use Rattle.sweep.specs.declared.moment.Came.the-variants.{Never, On}
+use Rattle.played.specs.Played.{callsOf, stepCalls}
 use Rattle.sweep_laws.specs.Counter.{counterAfter}
 use Rattle.sweep.specs.Moments.{added, came, comingIn, due, dueWithin, ended, moment, played, taken, waited}
-use Rattle.sweep_laws.specs.Rises.{Found, handlerCalls, stepCalls}
+use Rattle.sweep_laws.specs.Rises.{Found}
 use Rattle.sweep_laws.proofs.Runs.{Ready, rises, quiet, sets-within, within, first-due, quiet-due, due-low, ready-after, ready-taken, ready-zero}
 
 -- ---- clocks in a list
@@ -108,36 +109,36 @@ module _ (b : Bool) (m : ℕ) where
 
   -- ---- a step, where the steps behind it are told
   module _ (codes : List ℕ) (q : VrcIrq) (clock : ℕ) (r : Ready q)
-      (again : (p : VrcIrq) (t : ℕ) → Ready p → t + clockCount (handlerCalls codes) + 100_000 < 2 ^ 32
-      → Told (came b codes (moment p t)) p t (handlerCalls codes)) where
+      (again : (p : VrcIrq) (t : ℕ) → Ready p → t + clockCount (callsOf codes) + 100_000 < 2 ^ 32
+      → Told (came b codes (moment p t)) p t (callsOf codes)) where
     -- a call that is no clock and leaves pending clear
-    by-call : (k : Call) → Ready (counterAfter b k q) → weight (event k) ≡ 0 → clock + clockCount (handlerCalls codes) + 100_000 < 2 ^ 32
-        → Told (came b codes (moment (counterAfter b k q) clock)) q clock (k ∷ handlerCalls codes)
+    by-call : (k : Call) → Ready (counterAfter b k q) → weight (event k) ≡ 0 → clock + clockCount (callsOf codes) + 100_000 < 2 ^ 32
+        → Told (came b codes (moment (counterAfter b k q) clock)) q clock (k ∷ callsOf codes)
     by-call k f w room =
         let p = counterAfter b k q in
         let same : clock + weight (event k) ≡ clock = omega (arith, w) in
-        found-same (came b codes (moment p clock)) (clock + clockCount (left (handlerCalls codes)))
-        (clock + clockCount (left (k ∷ handlerCalls codes))) (rises b p (left (handlerCalls codes)) clock)
-        (rises b q (k ∷ left (handlerCalls codes)) clock)
+        found-same (came b codes (moment p clock)) (clock + clockCount (left (callsOf codes)))
+        (clock + clockCount (left (k ∷ callsOf codes))) (rises b p (left (callsOf codes)) clock)
+        (rises b q (k ∷ left (callsOf codes)) clock)
         (omega (arith, w))
-        (ap (λ (t : ℕ). cond (p .«irq_pending») (some t) (rises b p (left (handlerCalls codes)) t)) same
-        ∙ ap (λ (c : Bool). cond c (some clock) (rises b p (left (handlerCalls codes)) clock)) (f .clear))
+        (ap (λ (t : ℕ). cond (p .«irq_pending») (some t) (rises b p (left (callsOf codes)) t)) same
+        ∙ ap (λ (c : Bool). cond c (some clock) (rises b p (left (callsOf codes)) clock)) (f .clear))
         (again p clock f room)
 
     -- ---- clocks
-    module _ (n : ℕ) (room : clock + clockCount (replicate n Clock ++ handlerCalls codes) + 100_000 < 2 ^ 32) where
+    module _ (n : ℕ) (room : clock + clockCount (replicate n Clock ++ callsOf codes) + 100_000 < 2 ^ 32) where
       -- the clocks of the step, and those behind them
-      counted : clockCount (left (replicate n Clock ++ handlerCalls codes)) ≡ n + clockCount (left (handlerCalls codes))
+      counted : clockCount (left (replicate n Clock ++ callsOf codes)) ≡ n + clockCount (left (callsOf codes))
       counted =
-          ap clockCount (append-assoc (replicate n Clock) (handlerCalls codes) (replicate m Clock))
-          ∙ count-joined (replicate n Clock) (left (handlerCalls codes))
-          ∙ ap (λ (k : ℕ). k + clockCount (left (handlerCalls codes))) (count-run n)
+          ap clockCount (append-assoc (replicate n Clock) (callsOf codes) (replicate m Clock))
+          ∙ count-joined (replicate n Clock) (left (callsOf codes))
+          ∙ ap (λ (k : ℕ). k + clockCount (left (callsOf codes))) (count-run n)
 
-      fits : clock + n + clockCount (handlerCalls codes) + 100_000 < 2 ^ 32
-      fits = omega (arith, count-joined (replicate n Clock) (handlerCalls codes), count-run n)
+      fits : clock + n + clockCount (callsOf codes) + 100_000 < 2 ^ 32
+      fits = omega (arith, count-joined (replicate n Clock) (callsOf codes), count-run n)
 
-      regroup : rises b q (left (replicate n Clock ++ handlerCalls codes)) clock ≡ rises b q (replicate n Clock ++ left (handlerCalls codes)) clock
-      regroup = ap (λ (ks : List Call). rises b q ks clock) (append-assoc (replicate n Clock) (handlerCalls codes) (replicate m Clock))
+      regroup : rises b q (left (replicate n Clock ++ callsOf codes)) clock ≡ rises b q (replicate n Clock ++ left (callsOf codes)) clock
+      regroup = ap (λ (ks : List Call). rises b q ks clock) (append-assoc (replicate n Clock) (callsOf codes) (replicate m Clock))
 
       -- what the step leaves, by whether the interrupt is due within it
       abbrev chosen : Bool → Came
@@ -146,33 +147,33 @@ module _ (b : Bool) (m : ℕ) where
           (played b codes
           (cond c (record { irq = q; clock = added clock (due q); came = true }) (moment (irqAfter step line n q) (added clock n))))
 
-      comes-within : dueWithin n (due q) ≡ true → Told (ended (played b codes (waited n (moment q clock)))) q clock (replicate n Clock ++ handlerCalls codes)
+      comes-within : dueWithin n (due q) ≡ true → Told (ended (played b codes (waited n (moment q clock)))) q clock (replicate n Clock ++ callsOf codes)
       comes-within h =
           let low = within n (due q) h in
-          found-on (clock + clockCount (left (replicate n Clock ++ handlerCalls codes)))
-          (rises b q (left (replicate n Clock ++ handlerCalls codes)) clock)
+          found-on (clock + clockCount (left (replicate n Clock ++ callsOf codes)))
+          (rises b q (left (replicate n Clock ++ callsOf codes)) clock)
           (ended (played b codes (waited n (moment q clock)))) (clock + due q)
           (ap chosen h
           ∙ ap ended (settled b codes (record { irq = q; clock = added clock (due q); came = true }) refl)
           ∙ ap On (not-over clock (due q) (omega (arith, fits))))
-          (λ l. regroup ∙ sets-within b (due q) n q (left (handlerCalls codes)) clock r (first-due q (r .fine) n h) low)
+          (λ l. regroup ∙ sets-within b (due q) n q (left (callsOf codes)) clock r (first-due q (r .fine) n h) low)
           (λ l. absurd (omega (arith, counted)))
 
-      goes-by : dueWithin n (due q) ≡ false → Told (ended (played b codes (waited n (moment q clock)))) q clock (replicate n Clock ++ handlerCalls codes)
+      goes-by : dueWithin n (due q) ≡ false → Told (ended (played b codes (waited n (moment q clock)))) q clock (replicate n Clock ++ callsOf codes)
       goes-by h =
           let still = quiet-due q (r .fine) n h in
           let p = irqAfter step line n q in
-          subst (λ (a : Came). Told a q clock (replicate n Clock ++ handlerCalls codes))
+          subst (λ (a : Came). Told a q clock (replicate n Clock ++ callsOf codes))
           (sym (ap chosen h ∙ ap (λ (t : ℕ). came b codes (moment p t)) (not-over clock n (omega (arith, fits)))))
-          (found-same (came b codes (moment p (clock + n))) (clock + n + clockCount (left (handlerCalls codes)))
-          (clock + clockCount (left (replicate n Clock ++ handlerCalls codes))) (rises b p (left (handlerCalls codes)) (clock + n))
-          (rises b q (left (replicate n Clock ++ handlerCalls codes)) clock)
+          (found-same (came b codes (moment p (clock + n))) (clock + n + clockCount (left (callsOf codes)))
+          (clock + clockCount (left (replicate n Clock ++ callsOf codes))) (rises b p (left (callsOf codes)) (clock + n))
+          (rises b q (left (replicate n Clock ++ callsOf codes)) clock)
           (omega (arith, counted))
-          (regroup ∙ quiet b n q (left (handlerCalls codes)) clock r still)
+          (regroup ∙ quiet b n q (left (callsOf codes)) clock r still)
           (again p (clock + n) (ready-after n q r still) fits))
 
-    by-step : (s : Step) → ByteStep s → clock + clockCount (stepCalls s ++ handlerCalls codes) + 100_000 < 2 ^ 32
-        → Told (ended (played b codes (taken b s (moment q clock)))) q clock (stepCalls s ++ handlerCalls codes)
+    by-step : (s : Step) → ByteStep s → clock + clockCount (stepCalls s ++ callsOf codes) + 100_000 < 2 ^ 32
+        → Told (ended (played b codes (taken b s (moment q clock)))) q clock (stepCalls s ++ callsOf codes)
     by-step (Write a v) h room =
         by-call (CpuWrite a v) (ready-taken (decode b a) v q h r) refl (omega arith)
     by-step (Clocks n) h room = tested (dueWithin n (due q)) (comes-within n room) (goes-by n room)
@@ -180,8 +181,8 @@ module _ (b : Bool) (m : ℕ) where
     by-step (Wrong n) h room = again q clock r room
 
   -- ---- the steps
-  pub told : (codes : List ℕ) (q : VrcIrq) (clock : ℕ) → Ready q → clock + clockCount (handlerCalls codes) + 100_000 < 2 ^ 32
-      → Told (came b codes (moment q clock)) q clock (handlerCalls codes)
+  pub told : (codes : List ℕ) (q : VrcIrq) (clock : ℕ) → Ready q → clock + clockCount (callsOf codes) + 100_000 < 2 ^ 32
+      → Told (came b codes (moment q clock)) q clock (callsOf codes)
   told [] q clock r room = at-end q clock r (omega arith)
   told (code ∷ codes) q clock r room =
       by-step codes q clock r (λ p t f l. told codes p t f l) (stepCoded code) (byte-step (code / 0x1000000) (code % 0x1000000)) room

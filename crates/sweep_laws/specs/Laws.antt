@@ -13,9 +13,10 @@ use Rattle.vrc6.specs.Calls.{create}
 use Rattle.calls.specs.Lists.{given, refusalIn, next, after}
 use Rattle.ledger.specs.Ledger.{event}
 use Rattle.ledger.specs.Demand3.{Each, weight, clockCount, start}
+use Rattle.played.specs.Played.{callsOf}
 use Rattle.sweep_laws.specs.Counter.{counterAfter}
 use Rattle.sweep.specs.Moments.{due}
-use Rattle.sweep_laws.specs.Rises.{OfByte, Waits, Found, cameAt, handlerCalls, risesAt, runAt}
+use Rattle.sweep_laws.specs.Rises.{OfByte, Waits, Found, cameAt, risesAt, runAt}
 
 -- ---- the counter alone
 -- the clocks due of a counter
@@ -57,4 +58,4 @@ Comes x k codes m =
 abbrev pub CameLaw : Type 0
 CameLaw =
     (c : Creation) → create c .refusal ≡ 0 → (ws : List Call) → Each OfByte ws → (k : ℕ) → Waits (after (start c) ws .board .irq) k
-    → (codes : List ℕ) → k + clockCount (handlerCalls codes) + 100_000 < 2 ^ 32 → (m : ℕ) → Comes (after (start c) ws) k codes m
+    → (codes : List ℕ) → k + clockCount (callsOf codes) + 100_000 < 2 ^ 32 → (m : ℕ) → Comes (after (start c) ws) k codes m

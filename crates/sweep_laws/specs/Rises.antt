@@ -1,4 +1,4 @@
--- The calls that a handler makes on the board, and the clock after which the interrupt is pending (docs/SCENES.md). Assumes nothing.
+-- The calls of a run in which a handler is played, and the clock after which the interrupt is pending (docs/SCENES.md). Assumes nothing.
 use mathlib.Core.Path.{_≡_}
 use mathlib.Core.Bool.{Bool, false, cond}
 use mathlib.Core.List.{List, [], _∷_, _++_}
@@ -14,29 +14,15 @@ use Rattle.vrc6.specs.Boards.{State}
 use Rattle.calls.specs.Lists.{next}
 use Rattle.ledger.specs.Ledger.{event}
 use Rattle.ledger.specs.Demand3.{weight}
-use Rattle.sheet.specs.declared.step.Step.{Step}
-use Rattle.sheet.specs.declared.step.Step.the-variants.{Write, Clocks, Reset, Wrong}
-use Rattle.sheet.specs.Steps.{stepCoded}
+use Rattle.played.specs.Played.{callsOf}
 use Rattle.sweep.specs.declared.moment.Came.{Came}
 use Rattle.sweep.specs.declared.moment.Came.the-variants.{Never, On}
 use Rattle.sweep.specs.Moments.{came, due, dueWithin, moment}
 
 -- ---- the calls
--- of a step
-abbrev pub stepCalls : Step → List Call
-stepCalls (Write a v) = CpuWrite a v ∷ []
-stepCalls (Clocks n) = replicate n Clock
-stepCalls Reset = SoftReset ∷ []
-stepCalls (Wrong n) = []
-
--- of a handler, its steps given as their numbers
-abbrev pub handlerCalls : List ℕ → List Call
-handlerCalls [] = []
-handlerCalls (code ∷ codes) = stepCalls (stepCoded code) ++ handlerCalls codes
-
 -- of k clocks, then a handler, then m clocks
 abbrev pub runAt : (k : ℕ) → List ℕ → (m : ℕ) → List Call
-runAt k codes m = replicate k Clock ++ (handlerCalls codes ++ replicate m Clock)
+runAt k codes m = replicate k Clock ++ (callsOf codes ++ replicate m Clock)
 
 -- a call whose byte for a register is a byte
 abbrev pub OfByte : Call → Type 0

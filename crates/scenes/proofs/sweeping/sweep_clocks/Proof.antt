@@ -10,6 +10,9 @@ Inv-loop given clocks menu out₀ len bar₀ irq₀ swept₀ from₀ out bar irq
 abbrev μ-loop : tie.MeasureT-loop
 μ-loop given clocks menu out₀ len bar₀ irq₀ swept₀ from₀ out bar irq swept from = clocks - from
 
+unmarked-requires : tie.Need-unmarked-requires Inv-loop μ-loop
+unmarked-requires c κs = search needs
+
 new-requires : tie.Need-new-requires Inv-loop μ-loop
 new-requires c κs = search needs
 
@@ -40,6 +43,7 @@ sweep-clocks-spec =
     (tie.spec
     Inv-loop
     μ-loop
+    unmarked-requires
     new-requires
     loop-holds
     run-requires
