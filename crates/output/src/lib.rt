@@ -66,6 +66,30 @@ pub fn put_number(out: &mut [u8; ROOM], len: usize, n: u32) -> usize {
     put(out, l, glyph(n % 10))
 }
 
+// Nine decimal digits.
+fn put_nine(out: &mut [u8; ROOM], len: usize, n: u32) -> usize {
+    let a = put(out, len, glyph(n / 100_000_000 % 10));
+    let b = put(out, a, glyph(n / 10_000_000 % 10));
+    let c = put(out, b, glyph(n / 1_000_000 % 10));
+    let d = put(out, c, glyph(n / 100_000 % 10));
+    let e = put(out, d, glyph(n / 10_000 % 10));
+    let f = put(out, e, glyph(n / 1000 % 10));
+    let g = put(out, f, glyph(n / 100 % 10));
+    let h = put(out, g, glyph(n / 10 % 10));
+    put(out, h, glyph(n % 10))
+}
+
+// A decimal number of up to 18 digits.
+pub fn put_large(out: &mut [u8; ROOM], len: usize, n: u64) -> usize {
+    let low = (n % 1_000_000_000) as u32;
+    let high = (n / 1_000_000_000 % 1_000_000_000) as u32;
+    if high == 0 {
+        return put_number(out, len, low);
+    }
+    let a = put_number(out, len, high);
+    put_nine(out, a, low)
+}
+
 // A blank and a decimal number.
 pub fn put_decimal(out: &mut [u8; ROOM], len: usize, n: u32) -> usize {
     let l = put(out, len, b' ');

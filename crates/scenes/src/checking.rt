@@ -1,11 +1,14 @@
 // A scene that was played: its letters, its window, and the sweep of its menu.
 use crate::playing::Ended;
+use crate::report::put_bar;
 use crate::report::put_slot;
 use crate::report::put_verdict;
+use crate::report::put_worst;
 use crate::scene::ANY_BANK;
 use crate::scene::MOST_STEPS;
 use crate::scene::NO_WINDOW;
 use crate::scene::Scene;
+use crate::sweeping::Swept;
 use crate::sweeping::sweep_clocks;
 use crate::totals::Totals;
 use output::ROOM;
@@ -16,6 +19,7 @@ use sweep::Came;
 use sweep::Sweep;
 use sweep::Verdict;
 use sweep::lines::line_of;
+use sweep::moment::came_alone;
 use sweep::moment::clocks_due;
 use sweep::verdict::NEVER;
 use sweep::verdict::RIGHT;
@@ -28,7 +32,14 @@ struct Checked {
     len: usize,
 }
 
-fn check_letters(out: &mut [u8; ROOM], len: usize, shown: [u32; 8], asked: &[u32; 8]) -> Checked {
+// The banks that slots show, under the name of the moment when they were looked at.
+fn check_letters(
+    out: &mut [u8; ROOM],
+    len: usize,
+    name: &[u8],
+    shown: [u32; 8],
+    asked: &[u32; 8],
+) -> Checked {
     let mut right = true;
     let mut any = false;
     let mut n = len;
@@ -39,43 +50,31 @@ fn check_letters(out: &mut [u8; ROOM], len: usize, shown: [u32; 8], asked: &[u32
             any = true;
             if shown[i] != bank {
                 right = false;
-                n = put_slot(out, n, i, shown[i], bank);
+                n = put_slot(out, n, name, i, shown[i], bank);
             }
         }
         i += 1;
     }
     if any & right {
-        n = put_text(out, n, b"  letters: ok\n");
+        n = put_text(out, n, name);
+        n = put_text(out, n, b": ok\n");
     }
     Checked { right, len: n }
 }
 
-// The interrupt's clock without the menu. One that is pending already counts as come at clock 0.
-fn clock_of(irq: VrcIrq) -> u32 {
-    if irq.irq_pending {
-        return 0;
-    }
-    clocks_due(irq)
-}
-
-fn came_of(irq: VrcIrq) -> Came {
-    let clocks = clock_of(irq);
-    if irq.irq_pending | (clocks != 0) {
-        return Came::On(clocks);
-    }
-    Came::Never
-}
-
-fn put_clock(out: &mut [u8; ROOM], len: usize, irq: VrcIrq, verdict: Verdict) -> usize {
+// The clock behind an interrupt's line, or that it was pending already.
+fn put_clock(out: &mut [u8; ROOM], len: usize, irq: VrcIrq, came: Came) -> usize {
     if irq.irq_pending {
         return put_text(out, len, b", pending at the end of the writes\n");
     }
-    if verdict.mark == NEVER {
-        return put(out, len, b'\n');
+    match came {
+        Came::Never => put(out, len, b'\n'),
+        Came::On(clock) => {
+            let a = put_text(out, len, b", clock ");
+            let b = put_number(out, a, clock);
+            put(out, b, b'\n')
+        }
     }
-    let a = put_text(out, len, b", clock ");
-    let b = put_number(out, a, clock_of(irq));
-    put(out, b, b'\n')
 }
 
 // The window asked, or only where the interrupt comes.
@@ -83,60 +82,77 @@ fn put_window(
     out: &mut [u8; ROOM],
     len: usize,
     irq: VrcIrq,
+    came: Came,
     verdict: Verdict,
     asked: bool,
 ) -> usize {
     if asked {
         let a = put_text(out, len, b"  window: ");
         let b = put_verdict(out, a, verdict);
-        return put_clock(out, b, irq, verdict);
+        return put_clock(out, b, irq, came);
     }
     if verdict.mark == NEVER {
         return put_text(out, len, b"  interrupt: never\n");
     }
     let a = put_text(out, len, b"  interrupt: line ");
     let b = put_number(out, a, verdict.line);
-    put_clock(out, b, irq, verdict)
+    put_clock(out, b, irq, came)
 }
 
 // The line that is right: the window, or where none is given the line without the menu.
-fn right_line(scene: Scene, irq: VrcIrq) -> u32 {
-    if scene.window == NO_WINDOW {
-        return line_of(clock_of(irq), irq.prescalar_counter);
+fn right_line(scene: Scene, irq: VrcIrq, came: Came) -> u32 {
+    if scene.window != NO_WINDOW {
+        return scene.window;
     }
-    scene.window
+    match came {
+        Came::Never => 0,
+        Came::On(clock) => line_of(clock, irq.prescalar_counter),
+    }
+}
+
+// What a sweep found, below its runs.
+fn put_found(out: &mut [u8; ROOM], swept: Swept) -> usize {
+    let tally = swept.tally;
+    let bar = swept.bar;
+    let mut n = swept.len;
+    if tally.count != 0 {
+        n = put_worst(out, n, tally);
+    }
+    put_bar(out, n, &bar)
+}
+
+// Why there is no sweep.
+fn put_not_swept(out: &mut [u8; ROOM], len: usize, pending: bool) -> usize {
+    if pending {
+        return put_text(
+            out,
+            len,
+            b"  menu: not swept, as the interrupt is pending already\n",
+        );
+    }
+    put_text(out, len, b"  menu: not swept, as no interrupt is to come\n")
 }
 
 // The sweep, if there is an interrupt to come.
 fn sweep_menu(
     totals: Totals,
-    scene: Scene,
+    given: Sweep,
     irq: VrcIrq,
     menu: &[u32],
     out: &mut [u8; ROOM],
     checked: Checked,
 ) -> Totals {
-    let clocks = clock_of(irq);
-    if clocks == 0 {
-        let len = put_text(
-            out,
-            checked.len,
-            b"  menu: not swept, as no interrupt is to come\n",
-        );
+    let pending = irq.irq_pending;
+    let clocks = clocks_due(irq);
+    if pending | (clocks == 0) {
+        let len = put_not_swept(out, checked.len, pending);
         return totals.scene(len, checked.right, 0, 0);
     }
-    let given = Sweep {
-        prescaler: irq.prescalar_counter,
-        revision_b: scene.revision_b,
-        window: right_line(scene, irq),
-    };
     let swept = sweep_clocks(given, irq, clocks, menu, out, checked.len);
-    totals.scene(
-        swept.len,
-        checked.right & (swept.wrong == 0),
-        clocks,
-        swept.wrong,
-    )
+    let tally = swept.tally;
+    let wrong = tally.count;
+    let len = put_found(out, swept);
+    totals.scene(len, checked.right & (wrong == 0), clocks, wrong)
 }
 
 pub(crate) fn check(
@@ -148,26 +164,32 @@ pub(crate) fn check(
     out: &mut [u8; ROOM],
 ) -> Totals {
     let irq = ended.irq;
-    let shown = ended.banks;
-    let letters = check_letters(out, totals.len, shown, asked);
-    let verdict = verdict_of(came_of(irq), irq.prescalar_counter, right_line(scene, irq));
-    let window = scene.window != NO_WINDOW;
-    let len = put_window(out, letters.len, irq, verdict, window);
-    let right = letters.right & ((verdict.mark == RIGHT) | !window);
+    let banks = ended.banks;
+    let after_menu = ended.after_menu;
+    let letters = check_letters(out, totals.len, b"  letters", banks, asked);
+    let came = came_alone(irq);
+    let window = right_line(scene, irq, came);
+    let verdict = verdict_of(came, irq.prescalar_counter, window);
+    let windowed = scene.window != NO_WINDOW;
+    let len = put_window(out, letters.len, irq, came, verdict, windowed);
+    let right = letters.right & ((verdict.mark == RIGHT) | !windowed);
     let count = scene.menu;
     let steps: &[u32] = menu;
     if count == 0 {
         return totals.scene(len, right, 0, 0);
     }
+    let after = check_letters(out, len, b"  letters after the menu", after_menu, asked);
+    let checked = Checked {
+        right: right & after.right,
+        len: after.len,
+    };
+    let given = Sweep {
+        prescaler: irq.prescalar_counter,
+        revision_b: scene.revision_b,
+        window,
+    };
     if count <= steps.len() {
-        return sweep_menu(
-            totals,
-            scene,
-            irq,
-            &steps[0..count],
-            out,
-            Checked { right, len },
-        );
+        return sweep_menu(totals, given, irq, &steps[0..count], out, checked);
     }
-    totals.scene(len, right, 0, 0)
+    totals.scene(checked.len, checked.right, 0, 0)
 }

@@ -25,6 +25,12 @@ fn read_sheet(fd: i32, text: &mut [u8; SHEET]) -> usize {
     io::read_full(fd, all)
 }
 
+// Whether reading ended by the file's end, and not by an error: one more read says so.
+fn was_read(fd: i32) -> bool {
+    let mut more = [0u8; 1];
+    libc::read(fd, &mut more) >= 0
+}
+
 fn run_sheet(
     fixed: &[u8; 525312],
     changing: &mut [u8; 274432],
@@ -39,12 +45,16 @@ fn run_sheet(
 }
 
 // The buffers have the largest sizes that a layout can ask.
-fn play(fd: i32) {
+fn play(fd: i32, name: &[u8]) {
     let mut fixed = [0u8; 525312];
     let mut changing = [0u8; 274432];
     let mut text = [0u8; SHEET];
     let mut out = [0u8; 65536];
     let n = read_sheet(fd, &mut text);
+    if !was_read(fd) {
+        os::fail(name);
+        return;
+    }
     run_sheet(&fixed, &mut changing, &text, n, &mut out);
 }
 
@@ -54,7 +64,7 @@ fn play_file(path: &[u8]) {
         os::fail(path);
         return;
     }
-    play(fd);
+    play(fd, path);
     libc::close(fd);
 }
 
@@ -74,7 +84,7 @@ fn play_argument(i: usize, several: bool) {
 fn main() {
     let count = os::arg_count();
     if count < 2 {
-        play(STDIN_FILENO);
+        play(STDIN_FILENO, b"standard input");
         return;
     }
     let mut i: usize = 1;

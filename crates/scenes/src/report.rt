@@ -3,8 +3,10 @@ use output::ROOM;
 use output::put;
 use output::put_number;
 use output::put_text;
+use sweep::Tally;
 use sweep::Verdict;
 use sweep::shown::NO_BANK;
+use sweep::tally::Wrong;
 use sweep::verdict::EARLY;
 use sweep::verdict::NEVER;
 use sweep::verdict::RIGHT;
@@ -48,21 +50,23 @@ fn put_bank(out: &mut [u8; ROOM], len: usize, bank: u32) -> usize {
     put_number(out, a, bank)
 }
 
-// A slot that shows another bank.
+// A slot that shows another bank, under what was looked at.
 pub(crate) fn put_slot(
     out: &mut [u8; ROOM],
     len: usize,
+    name: &[u8],
     slot: usize,
     shown: u32,
     asked: u32,
 ) -> usize {
-    let a = put_text(out, len, b"  letters: slot ");
-    let b = put_number(out, a, (slot % 256) as u32);
-    let c = put_text(out, b, b" shows ");
-    let d = put_bank(out, c, shown);
-    let e = put_text(out, d, b", not ");
-    let f = put_number(out, e, asked);
-    put(out, f, b'\n')
+    let a = put_text(out, len, name);
+    let b = put_text(out, a, b": slot ");
+    let c = put_number(out, b, (slot % 256) as u32);
+    let d = put_text(out, c, b" shows ");
+    let e = put_bank(out, d, shown);
+    let f = put_text(out, e, b", not ");
+    let g = put_number(out, f, asked);
+    put(out, g, b'\n')
 }
 
 // A run of clocks with one verdict. The first of a sweep is headed by a word, the others stand below it.
@@ -85,25 +89,18 @@ pub(crate) fn put_run(
     put(out, f, b'\n')
 }
 
-fn put_moment(out: &mut [u8; ROOM], len: usize, name: &[u8], k: u32, verdict: Verdict) -> usize {
+fn put_moment(out: &mut [u8; ROOM], len: usize, name: &[u8], wrong: Wrong) -> usize {
     let a = put_text(out, len, name);
-    let b = put_number(out, a, k);
+    let b = put_number(out, a, wrong.clock);
     let c = put_text(out, b, b": ");
-    let d = put_verdict(out, c, verdict);
+    let d = put_verdict(out, c, wrong.verdict);
     put(out, d, b'\n')
 }
 
 // The first wrong moment and the worst.
-pub(crate) fn put_worst(
-    out: &mut [u8; ROOM],
-    len: usize,
-    first: u32,
-    of_first: Verdict,
-    worst: u32,
-    of_worst: Verdict,
-) -> usize {
-    let a = put_moment(out, len, b"  first wrong at clock ", first, of_first);
-    put_moment(out, a, b"  worst at clock ", worst, of_worst)
+pub(crate) fn put_worst(out: &mut [u8; ROOM], len: usize, tally: Tally) -> usize {
+    let a = put_moment(out, len, b"  first wrong at clock ", tally.first);
+    put_moment(out, a, b"  worst at clock ", tally.worst)
 }
 
 fn mark_of(mark: u8) -> u8 {

@@ -7,7 +7,7 @@ use crate::faults::put_row;
 use crate::faults::put_row_fault;
 use crate::header::Header;
 use crate::header::read_header;
-use crate::playing::play_writes;
+use crate::playing::play_steps;
 use crate::reading::read_scene;
 use crate::row::read_row;
 use crate::row::span_of;
@@ -18,6 +18,7 @@ use libc::STDERR_FILENO;
 use output::ROOM;
 use output::flush;
 use output::put;
+use output::put_large;
 use output::put_number;
 use output::put_text;
 
@@ -25,7 +26,7 @@ use output::put_text;
 const MOST_BYTES: usize = 2097152;
 
 // So many moments are swept between two lines of progress.
-const PROGRESS: u32 = 500000;
+const PROGRESS: u64 = 500000;
 
 // The row's number, and the scene's name if it has one.
 fn put_name(out: &mut [u8; ROOM], len: usize, row: u32, text: &[u8], spans: &[usize; 27]) -> usize {
@@ -54,7 +55,7 @@ fn play_scene(
     asked: &[u32; 8],
     out: &mut [u8; ROOM],
 ) -> Totals {
-    let ended = play_writes(scene, fixed, changing, writes);
+    let ended = play_steps(scene, fixed, changing, writes, menu);
     if ended.refusal != 0 {
         return totals.bad_row(put_text(out, totals.len, b"  no board takes these lengths\n"));
     }
@@ -92,14 +93,14 @@ fn play_cells(
 
 // A line of progress, for sheets that take long.
 fn tell(totals: Totals) -> Totals {
-    let swept = std::num::wrapping_sub_u32(totals.moments, totals.told);
+    let swept = std::num::wrapping_sub_u64(totals.moments, totals.told);
     if swept < PROGRESS {
         return totals;
     }
     io::write_all(STDERR_FILENO, b"row ");
     io::print_decimal(STDERR_FILENO, totals.row as u64);
     io::write_all(STDERR_FILENO, b": ");
-    io::print_decimal(STDERR_FILENO, totals.moments as u64);
+    io::print_decimal(STDERR_FILENO, totals.moments);
     io::write_all(STDERR_FILENO, b" moments swept\n");
     totals.telling()
 }
@@ -153,8 +154,8 @@ fn play_row(
 }
 
 // A number and what it counts, in the singular for 1.
-fn put_count(out: &mut [u8; ROOM], len: usize, n: u32, one: &[u8], many: &[u8]) -> usize {
-    let a = put_number(out, len, n);
+fn put_count(out: &mut [u8; ROOM], len: usize, n: u64, one: &[u8], many: &[u8]) -> usize {
+    let a = put_large(out, len, n);
     if n == 1 {
         return put_text(out, a, one);
     }
@@ -162,7 +163,13 @@ fn put_count(out: &mut [u8; ROOM], len: usize, n: u32, one: &[u8], many: &[u8]) 
 }
 
 fn finish(totals: Totals, out: &mut [u8; ROOM]) {
-    let a = put_count(out, totals.len, totals.scenes, b" scene, ", b" scenes, ");
+    let a = put_count(
+        out,
+        totals.len,
+        totals.scenes as u64,
+        b" scene, ",
+        b" scenes, ",
+    );
     let b = put_number(out, a, totals.right);
     let c = put_text(out, b, b" right, ");
     let d = put_count(
@@ -172,9 +179,9 @@ fn finish(totals: Totals, out: &mut [u8; ROOM]) {
         b" moment swept, ",
         b" moments swept, ",
     );
-    let e = put_number(out, d, totals.wrong);
+    let e = put_large(out, d, totals.wrong);
     let f = put_text(out, e, b" wrong\n");
-    let g = put_count(out, f, totals.bad, b" bad row\n", b" bad rows\n");
+    let g = put_count(out, f, totals.bad as u64, b" bad row\n", b" bad rows\n");
     flush(out, g);
 }
 

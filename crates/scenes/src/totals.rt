@@ -7,11 +7,12 @@ pub struct Totals {
     pub row: u32,
     pub scenes: u32,
     pub right: u32,
-    pub moments: u32,
-    pub wrong: u32,
+    // A sheet can have more moments than 32 bits count.
+    pub moments: u64,
+    pub wrong: u64,
     pub bad: u32,
     // The moments when progress was last told.
-    pub told: u32,
+    pub told: u64,
 }
 
 fn sum(a: u32, b: u32) -> u32 {
@@ -51,8 +52,8 @@ impl Totals {
     // A scene that was played: whether it is right, and how many moments were swept and were wrong.
     pub(crate) fn scene(mut self, len: usize, right: bool, moments: u32, wrong: u32) -> Totals {
         self.scenes = sum(self.scenes, 1);
-        self.moments = sum(self.moments, moments);
-        self.wrong = sum(self.wrong, wrong);
+        self.moments = std::num::wrapping_add_u64(self.moments, moments as u64);
+        self.wrong = std::num::wrapping_add_u64(self.wrong, wrong as u64);
         self.len = len;
         if right {
             self.right = sum(self.right, 1);

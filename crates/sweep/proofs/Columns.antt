@@ -26,13 +26,14 @@ pub record Among (n from to i : ℕ) : Type 0 where
   pub touches : Touches n clock i
 
 module _ (n from to i : ℕ) (h : from < to) (l : to ≤ n) where
-  -- such a clock's columns lie between those of the first and of the last clock
+  -- what a clock touches lies between the columns of the first and of the last clock
   pub spread : (j : ℕ) → from ≤ j → j < to → Touches n j i → (firstColumn from n ≤ i) × (i ≤ lastColumn (to - 1) n)
-  spread j a b t =
-      (omega (arith, t .first, onward (64 * from) (64 * j) n (omega arith) (omega arith)),
-      omega (arith, t .last, onward (64 * j + 63) (64 * (to - 1) + 63) n (omega arith) (omega arith)))
+  spread j a b t = (
+    omega (arith, t .first, onward (64 * from) (64 * j) n (omega arith) (omega arith)),
+    omega (arith, t .last, onward (64 * j + 63) (64 * (to - 1) + 63) n (omega arith) (omega arith)),
+  )
 
-  -- between the columns of the first and of the last clock stands one that neither touches: the clock at its start
+  -- a column behind the first clock's and before the last one's is touched by the clock at its start
   between : lastColumn from n < i → i < firstColumn (to - 1) n → Among n from to i
   between a b =
       let p : 0 < n = omega arith in

@@ -12,6 +12,7 @@ use Rattle.basics.proofs.Tests.{tested}
 use Rattle.sweep.specs.Bars.{Barred, MarkedOn, Shows, Touches, Unmarked, firstColumn, lastColumn}
 use Rattle.sweep.proofs.Columns.{Among, found, spread}
 
+-- 64 columns of 0 are the bar of no clock
 pub unmarked : Unmarked (replicate 64 0)
 unmarked at n =
     record {
@@ -39,6 +40,7 @@ pub record Raised (first end m : ℕ) (old now : List ℕ) (i : ℕ) : Type 0 wh
   pub column : (c : ℕ) → Column first end m i c (getD old c 0) (getD now c 0)
 
 module _ (first end m : ℕ) (old : List ℕ) where
+  -- no column is raised yet
   pub none : length old ≡ 64 → Raised first end m old old first
   none w =
       record {
@@ -57,9 +59,9 @@ module _ (first end m : ℕ) (old : List ℕ) where
           behind = omega (arith, r .behind);
           column =
               λ c.
-                  tested (eqb c i)
-                  (λ t. subst (λ (k : ℕ). Column first end m (i + 1) k (getD old k 0) (getD new k 0)) (sym (eqb-true c i t)) here)
-                  (λ t. other c (eqb-false c i t));
+              tested (eqb c i)
+              (λ t. subst (λ (k : ℕ). Column first end m (i + 1) k (getD old k 0) (getD new k 0)) (sym (eqb-true c i t)) here)
+              (λ t. other c (eqb-false c i t));
         }
       where
         other : (c : ℕ) → (c ≡ i → ⊥) → Column first end m (i + 1) c (getD old c 0) (getD new c 0)

@@ -28,15 +28,15 @@ pub record Shows (at : ℕ → ℕ) (n k i m : ℕ) : Type 0 where
 -- the bar of the clocks before k of n, of which clock j has mark `at j`
 pub record Barred (at : ℕ → ℕ) (n k : ℕ) (bar : List ℕ) : Type 0 where
   pub width : length bar ≡ 64
-  -- no clock that touches a column has a worse mark
+  -- no clock that touches a column has a worse (larger) mark
   pub worst : (j : ℕ) → j < k → (i : ℕ) → i < 64 → Touches n j i → at j ≤ getD bar i 0
   -- a column shows the mark of a clock that touches it, or 0
   pub shown : (i : ℕ) → i < 64 → (getD bar i 0 ≡ 0) ⊎ Shows at n k i (getD bar i 0)
 
--- the clocks before `from` have the old bar and those from there to before `to` mark m: then the clocks before `to` have the new bar
+-- if the old bar is that of the clocks before `from`, and the clocks from there to before `to` have mark m, the new one is that of the clocks before `to`
 abbrev pub MarkedOn : (n from to m : ℕ) (bar new : List ℕ) → Type 0
 MarkedOn n from to m bar new = (at : ℕ → ℕ) → Barred at n from bar → ((j : ℕ) → from ≤ j → j < to → at j ≡ m) → Barred at n to new
 
--- a bar before the first clock, whatever the clocks' marks
+-- a bar of no clock, whatever the clocks' marks
 abbrev pub Unmarked : (bar : List ℕ) → Type 0
 Unmarked bar = (at : ℕ → ℕ) (n : ℕ) → Barred at n 0 bar

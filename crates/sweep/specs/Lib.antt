@@ -3,6 +3,7 @@ pub mod Lines
 pub mod Moments
 pub mod Runs
 pub mod Shown
+pub mod Swept
 pub mod Tallies
 pub mod Verdicts
 pub mod Waits

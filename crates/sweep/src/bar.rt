@@ -20,7 +20,7 @@ fn last_column(k: u32, n: u32) -> u64
     (COLUMNS * (k as u64) + (COLUMNS - 1)) / (n as u64)
 }
 
-// The bar before the first clock.
+// The bar of no clock.
 pub fn unmarked() -> [u8; 64]
     ensures { λ r. ⌜ Unmarked r ⌝ }
 {

@@ -13,6 +13,9 @@ abbrev μ-loop : tie.MeasureT-loop
 arg-count-requires : tie.Need-arg-count-requires Inv-loop μ-loop
 arg-count-requires c κs = search needs
 
+slice-aggregate-play : tie.Need-slice-aggregate-play Inv-loop μ-loop
+slice-aggregate-play c = search needs
+
 play-requires : tie.Need-play-requires Inv-loop μ-loop
 play-requires c κs = search needs
 
@@ -44,6 +47,7 @@ main-spec =
     Inv-loop
     μ-loop
     arg-count-requires
+    slice-aggregate-play
     play-requires
     returns
     loop-holds

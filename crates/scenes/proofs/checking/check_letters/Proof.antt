@@ -5,10 +5,10 @@ use Rattle.scenes.proofs.checking.check_letters.Statement.{statement}
 use Rattle.scenes.proofs.checking.check_letters.Tie as tie
 
 abbrev Inv-loop : tie.InvT-loop
-Inv-loop out₀ len asked shown right₀ any₀ n₀ i₀ t11 out right any n i = i ≤ 8
+Inv-loop out₀ len name asked shown right₀ any₀ n₀ i₀ t12 out right any n i = i ≤ 8
 
 abbrev μ-loop : tie.MeasureT-loop
-μ-loop out₀ len asked shown right₀ any₀ n₀ i₀ t11 out right any n i = 8 - i
+μ-loop out₀ len name asked shown right₀ any₀ n₀ i₀ t12 out right any n i = 8 - i
 
 loop-holds : tie.Need-loop-holds Inv-loop μ-loop
 loop-holds c = search needs
@@ -43,11 +43,14 @@ loop-less c = search needs
 loop-again : tie.Need-loop-again Inv-loop μ-loop
 loop-again c = search needs
 
+put-text-requires : tie.Need-put-text-requires Inv-loop μ-loop
+put-text-requires c κs = search needs
+
 slice-aggregate-put-text : tie.Need-slice-aggregate-put-text Inv-loop μ-loop
 slice-aggregate-put-text c = search needs
 
-put-text-requires : tie.Need-put-text-requires Inv-loop μ-loop
-put-text-requires c κs = search needs
+put-text-requires-2 : tie.Need-put-text-requires-2 Inv-loop μ-loop
+put-text-requires-2 c κs = search needs
 
 returns : tie.Need-returns Inv-loop μ-loop
 returns c = search needs
@@ -72,7 +75,8 @@ check-letters-spec =
     add-i
     loop-less
     loop-again
-    slice-aggregate-put-text
     put-text-requires
+    slice-aggregate-put-text
+    put-text-requires-2
     returns
     returns-2)

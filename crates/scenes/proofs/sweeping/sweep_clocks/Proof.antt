@@ -1,14 +1,16 @@
--- `sweep_clocks` is safe and ends. Assumes nothing.
-use Prim.Native.Nat.{_≤_, _-_}
+-- `sweep_clocks` meets its contract. Assumes nothing.
+use Prim.Native.Nat.{_-_}
+use native.Mathlib.Omega.{arith}
 use borrow.Author.Needs.{needs}
+use Rattle.sweep.proofs.Sweeping.{Upto, none, more, all}
 use Rattle.scenes.proofs.sweeping.sweep_clocks.Statement.{statement}
 use Rattle.scenes.proofs.sweeping.sweep_clocks.Tie as tie
 
 abbrev Inv-loop : tie.InvT-loop
-Inv-loop given clocks menu out₀ len bar₀ irq₀ swept₀ from₀ out bar irq swept from = from ≤ clocks
+Inv-loop given clocks menu out₀ len bar₀ tally₀ irq₀ from₀ n₀ out bar tally irq from n = Upto given menu irq₀ clocks from irq tally bar
 
 abbrev μ-loop : tie.MeasureT-loop
-μ-loop given clocks menu out₀ len bar₀ irq₀ swept₀ from₀ out bar irq swept from = clocks - from
+μ-loop given clocks menu out₀ len bar₀ tally₀ irq₀ from₀ n₀ out bar tally irq from n = clocks - from
 
 unmarked-requires : tie.Need-unmarked-requires Inv-loop μ-loop
 unmarked-requires c κs = search needs
@@ -17,25 +19,31 @@ new-requires : tie.Need-new-requires Inv-loop μ-loop
 new-requires c κs = search needs
 
 loop-holds : tie.Need-loop-holds Inv-loop μ-loop
-loop-holds c = search needs
+loop-holds c = none _ _ _ _ _ _ (c .new .ensures) (c .before .unmarked .ensures)
 
 run-requires : tie.Need-run-requires Inv-loop μ-loop
-run-requires c κs = search needs
+run-requires c κs = c .loop-test .taken
 
-tell-requires : tie.Need-tell-requires Inv-loop μ-loop
-tell-requires c κs = search needs
+add-requires : tie.Need-add-requires Inv-loop μ-loop
+add-requires c κs = c .before .run .ensures .onward
+
+mark-requires : tie.Need-mark-requires Inv-loop μ-loop
+mark-requires c κs = (c .before .before .before .run .ensures .onward, c .before .before .before .run .ensures .within)
+
+sub-put-run : tie.Need-sub-put-run Inv-loop μ-loop
+sub-put-run c = omega (arith, c .before .before .before .before .before .before .run .ensures .onward)
+
+put-run-requires : tie.Need-put-run-requires Inv-loop μ-loop
+put-run-requires c κs = search needs
 
 loop-less : tie.Need-loop-less Inv-loop μ-loop
-loop-less c = search needs
+loop-less c = omega (arith, c .before .before .before .before .before .before .before .before .run .ensures .onward, c .before .before .before .before .before .before .before .before .before .loop-test .taken)
 
 loop-again : tie.Need-loop-again Inv-loop μ-loop
-loop-again c = search needs
-
-end-requires : tie.Need-end-requires Inv-loop μ-loop
-end-requires c κs = search needs
+loop-again c = more _ _ _ _ _ _ _ _ (c .before .before .before .before .before .before .before .before .before .before .loop .inv) _ (c .before .before .before .before .before .before .before .before .run .ensures) _ _ (c .before .before .before .before .before .before .add .ensures) (c .before .before .before .before .mark .ensures)
 
 returns : tie.Need-returns Inv-loop μ-loop
-returns c = search needs
+returns c = all _ _ _ _ _ _ _ _ (c .before .loop .inv) (c .loop-test .left)
 
 pub sweep-clocks-spec : {M : Type 1} → statement M
 sweep-clocks-spec =
@@ -47,8 +55,10 @@ sweep-clocks-spec =
     new-requires
     loop-holds
     run-requires
-    tell-requires
+    add-requires
+    mark-requires
+    sub-put-run
+    put-run-requires
     loop-less
     loop-again
-    end-requires
     returns)

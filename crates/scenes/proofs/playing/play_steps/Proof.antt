@@ -1,9 +1,9 @@
--- `play_writes` is safe and ends. Assumes nothing.
+-- `play_steps` is safe and ends. Assumes nothing.
 use mathlib.Core.Path.{sym, _∙_}
 use Rattle.layout.proofs.Limited.{limits}
 use borrow.Author.Needs.{needs}
-use Rattle.scenes.proofs.playing.play_writes.Statement.{statement}
-use Rattle.scenes.proofs.playing.play_writes.Tie as tie
+use Rattle.scenes.proofs.playing.play_steps.Statement.{statement}
+use Rattle.scenes.proofs.playing.play_steps.Tie as tie
 
 within-limits-requires : tie.Need-within-limits-requires
 within-limits-requires c κs = search needs
@@ -53,8 +53,8 @@ none-requires c κs = search needs
 returns-2 : tie.Need-returns-2
 returns-2 c = search needs
 
-pub play-writes-spec : {M : Type 1} → statement M
-play-writes-spec =
+pub play-steps-spec : {M : Type 1} → statement M
+play-steps-spec =
     tie.close
     (tie.spec
     within-limits-requires
