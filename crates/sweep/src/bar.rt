@@ -32,7 +32,8 @@ pub fn mark(bar: &mut [u8; 64], from: u32, to: u32, n: u32, mark: u8)
     requires { ⌜ (from < to) × (to ≤ n) ⌝ }
     ensures { λ _. ⌜ MarkedOn n from to mark (now (bar .entry)) (now (bar .exit)) ⌝ }
 {
-    let end = last_column(to - 1, n) as usize;
+    let last = to - 1;
+    let end = last_column(last, n) as usize;
     let mut i = first_column(from, n) as usize;
     while i <= end {
         if bar[i] < mark {

@@ -9,13 +9,13 @@ use Rattle.sweep.proofs.bar.mark.Statement.{statement}
 use Rattle.sweep.proofs.bar.mark.Tie as tie
 
 abbrev Inv-loop : tie.InvT-loop
-Inv-loop bar₀ from to n mark end i₀ bar i = length bar₀ ≡ 64 → Raised i₀ end mark bar₀ bar i
+Inv-loop bar₀ from to n mark last end i₀ bar i = length bar₀ ≡ 64 → Raised i₀ end mark bar₀ bar i
 
 abbrev μ-loop : tie.MeasureT-loop
-μ-loop bar₀ from to n mark end i₀ bar i = end + 1 - i
+μ-loop bar₀ from to n mark last end i₀ bar i = end + 1 - i
 
-sub-last-column : tie.Need-sub-last-column Inv-loop μ-loop
-sub-last-column c = search needs
+sub-last : tie.Need-sub-last Inv-loop μ-loop
+sub-last c = search needs
 
 last-column-requires : tie.Need-last-column-requires Inv-loop μ-loop
 last-column-requires c κs = search needs
@@ -57,7 +57,7 @@ mark-spec =
     (tie.spec
     Inv-loop
     μ-loop
-    sub-last-column
+    sub-last
     last-column-requires
     first-column-requires
     loop-holds
