@@ -1,4 +1,6 @@
-// The steps of a sheet, played on a board.
+// The steps of a sheet, played on a board, and the bank that a slot of it shows.
+pub mod shown;
+
 use calls::Call;
 use calls::step;
 use sheet::Step;

@@ -1,66 +1,28 @@
 // A scene that was played: its letters, its window, and the sweep of its menu.
+use crate::letters::Checked;
+use crate::letters::check_letters;
 use crate::playing::Ended;
-use crate::report::put_bar;
-use crate::report::put_slot;
-use crate::report::put_verdict;
-use crate::report::put_worst;
-use crate::scene::ANY_BANK;
 use crate::scene::MOST_STEPS;
 use crate::scene::NO_WINDOW;
 use crate::scene::Scene;
-use crate::sweeping::Swept;
-use crate::sweeping::sweep_clocks;
 use crate::totals::Totals;
+use moments::Came;
+use moments::Verdict;
+use moments::lines::line_of;
+use moments::moment::came_alone;
+use moments::moment::clocks_due;
+use moments::verdict::NEVER;
+use moments::verdict::RIGHT;
+use moments::verdict::verdict_of;
 use output::ROOM;
 use output::put;
 use output::put_number;
 use output::put_text;
-use sweep::Came;
+use report::put_verdict;
+use report::sweeping::put_found;
+use report::sweeping::sweep_clocks;
 use sweep::Sweep;
-use sweep::Verdict;
-use sweep::lines::line_of;
-use sweep::moment::came_alone;
-use sweep::moment::clocks_due;
-use sweep::verdict::NEVER;
-use sweep::verdict::RIGHT;
-use sweep::verdict::verdict_of;
 use vrc_irq::VrcIrq;
-
-// Whether what was asked is so, and how many bytes the output buffer holds.
-struct Checked {
-    right: bool,
-    len: usize,
-}
-
-// The banks that slots show, under the name of the moment when they were looked at.
-fn check_letters(
-    out: &mut [u8; ROOM],
-    len: usize,
-    name: &[u8],
-    shown: [u32; 8],
-    asked: &[u32; 8],
-) -> Checked {
-    let mut right = true;
-    let mut any = false;
-    let mut n = len;
-    let mut i: usize = 0;
-    while i < 8 {
-        let bank = asked[i];
-        if bank != ANY_BANK {
-            any = true;
-            if shown[i] != bank {
-                right = false;
-                n = put_slot(out, n, name, i, shown[i], bank);
-            }
-        }
-        i += 1;
-    }
-    if any & right {
-        n = put_text(out, n, name);
-        n = put_text(out, n, b": ok\n");
-    }
-    Checked { right, len: n }
-}
 
 // The clock behind an interrupt's line, or that it was pending already.
 fn put_clock(out: &mut [u8; ROOM], len: usize, irq: VrcIrq, came: Came) -> usize {
@@ -110,17 +72,6 @@ fn right_line(scene: Scene, irq: VrcIrq, came: Came) -> u32 {
     }
 }
 
-// What a sweep found, below its runs.
-fn put_found(out: &mut [u8; ROOM], swept: Swept) -> usize {
-    let tally = swept.tally;
-    let bar = swept.bar;
-    let mut n = swept.len;
-    if tally.count != 0 {
-        n = put_worst(out, n, tally);
-    }
-    put_bar(out, n, &bar)
-}
-
 // Why there is no sweep.
 fn put_not_swept(out: &mut [u8; ROOM], len: usize, pending: bool) -> usize {
     if pending {
@@ -159,7 +110,7 @@ pub(crate) fn check(
     totals: Totals,
     scene: Scene,
     ended: Ended,
-    asked: &[u32; 8],
+    asked: [u32; 8],
     menu: &[u32; MOST_STEPS],
     out: &mut [u8; ROOM],
 ) -> Totals {

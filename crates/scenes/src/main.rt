@@ -3,14 +3,13 @@
 mod checking;
 mod faults;
 mod header;
+mod letters;
 mod lists;
 mod playing;
 mod reading;
-mod report;
 mod row;
 mod run;
 mod scene;
-mod sweeping;
 mod totals;
 
 use crate::run::run;

@@ -4,7 +4,7 @@ use crate::scene::MOST_STEPS;
 use crate::scene::Scene;
 use layout::MemoryLayout;
 use played::play;
-use sweep::shown::bank_shown;
+use played::shown::bank_shown;
 use told::create_numbered;
 use vrc_irq::VrcIrq;
 use vrc6::Board;

@@ -52,7 +52,7 @@ fn play_scene(
     changing: &mut [u8],
     writes: &[u32; MOST_STEPS],
     menu: &[u32; MOST_STEPS],
-    asked: &[u32; 8],
+    asked: [u32; 8],
     out: &mut [u8; ROOM],
 ) -> Totals {
     let ended = play_steps(scene, fixed, changing, writes, menu);
@@ -88,7 +88,7 @@ fn play_cells(
     }
     let len = put_name(out, scene.len, totals.row, text, spans);
     let named = totals.holding(len);
-    play_scene(named, scene, fixed, changing, &writes, &menu, &asked, out)
+    play_scene(named, scene, fixed, changing, &writes, &menu, asked, out)
 }
 
 // A line of progress, for sheets that take long.

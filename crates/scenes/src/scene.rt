@@ -3,9 +3,6 @@
 // No window is given.
 pub const NO_WINDOW: u32 = 0xFFFF_FFFF;
 
-// No bank is asked of a slot.
-pub const ANY_BANK: u32 = 0xFFFF_FFFF;
-
 // The most steps that a cell may have.
 pub const MOST_STEPS: usize = 4096;
 

@@ -14,14 +14,14 @@ use Rattle.vrc_irq.specs.declared.VrcIrq.{VrcIrq}
 use Rattle.vrc_irq.specs.declared.IrqClocked.{IrqClocked}
 use Rattle.vrc_irq.specs.Board.{step, line, clockAnswer}
 use Rattle.vrc_irq.specs.Clocks.{irqAfter}
-use Rattle.sweep.specs.declared.moment.Came.{Came}
-use Rattle.sweep.specs.declared.moment.Came.the-variants.{Never, On}
+use Rattle.moments.specs.declared.moment.Came.{Came}
+use Rattle.moments.specs.declared.moment.Came.the-variants.{Never, On}
 use Rattle.sweep.specs.declared.runs.Sweep.{Sweep}
 use Rattle.sweep.specs.declared.runs.Run.{Run}
-use Rattle.sweep.specs.declared.verdict.Verdict.{Verdict}
-use Rattle.sweep.specs.Lines.{lineOf}
-use Rattle.sweep.specs.Moments.{came, moment}
-use Rattle.sweep.specs.Verdicts.{onLine, verdictOf}
+use Rattle.moments.specs.declared.verdict.Verdict.{Verdict}
+use Rattle.moments.specs.Lines.{lineOf}
+use Rattle.moments.specs.Moments.{came, moment}
+use Rattle.moments.specs.Verdicts.{onLine, verdictOf}
 use Rattle.sweep.specs.Runs.{RunOf, sameVerdict, verdictAt, verdictFrom, verdictIn}
 
 -- a test that is asked the other way round

@@ -11,7 +11,7 @@ use Rattle.vrc_irq.specs.Clocks.{irqAfter}
 use Rattle.sweep.specs.declared.runs.Run.{Run}
 use Rattle.sweep.specs.declared.runs.Sweep.{Sweep}
 use Rattle.sweep.specs.declared.tally.Tally.{Tally}
-use Rattle.sweep.specs.declared.verdict.Verdict.{Verdict}
+use Rattle.moments.specs.declared.verdict.Verdict.{Verdict}
 use Rattle.sweep.specs.Bars.{MarkedOn, Unmarked}
 use Rattle.sweep.specs.Runs.{RunOf, verdictIn}
 use Rattle.sweep.specs.Swept.{SweptOf}

@@ -10,7 +10,7 @@ use Rattle.basics.proofs.Tests.{either, tested}
 use Rattle.sweep.specs.declared.runs.Run.{Run}
 use Rattle.sweep.specs.declared.tally.Tally.{Tally}
 use Rattle.sweep.specs.declared.tally.Wrong.{Wrong}
-use Rattle.sweep.specs.declared.verdict.Verdict.{Verdict}
+use Rattle.moments.specs.declared.verdict.Verdict.{Verdict}
 use Rattle.sweep.specs.Tallies.{FirstWrong, Tallied, WorstWrong, WrongAt, badness, isWrong, wrongBefore}
 
 module _ (at : ℕ → Verdict) where

@@ -1,9 +1,4 @@
 pub mod Bars
-pub mod Lines
-pub mod Moments
 pub mod Runs
-pub mod Shown
 pub mod Swept
 pub mod Tallies
-pub mod Verdicts
-pub mod Waits

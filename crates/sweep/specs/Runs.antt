@@ -10,9 +10,9 @@ use Rattle.vrc_irq.specs.Board.{step, line}
 use Rattle.vrc_irq.specs.Clocks.{irqAfter}
 use Rattle.sweep.specs.declared.runs.Sweep.{Sweep}
 use Rattle.sweep.specs.declared.runs.Run.{Run}
-use Rattle.sweep.specs.declared.verdict.Verdict.{Verdict}
-use Rattle.sweep.specs.Moments.{came, moment}
-use Rattle.sweep.specs.Verdicts.{verdictOf}
+use Rattle.moments.specs.declared.verdict.Verdict.{Verdict}
+use Rattle.moments.specs.Moments.{came, moment}
+use Rattle.moments.specs.Verdicts.{verdictOf}
 
 -- the verdict if the menu runs at clock k, which leaves the counter so
 abbrev pub verdictAt : Sweep → List ℕ → VrcIrq → (k : ℕ) → Verdict

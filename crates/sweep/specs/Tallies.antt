@@ -6,7 +6,7 @@ use lib.Dec.{eqb}
 use Rattle.sweep.specs.declared.runs.Run.{Run}
 use Rattle.sweep.specs.declared.tally.Tally.{Tally}
 use Rattle.sweep.specs.declared.tally.Wrong.{Wrong}
-use Rattle.sweep.specs.declared.verdict.Verdict.{Verdict}
+use Rattle.moments.specs.declared.verdict.Verdict.{Verdict}
 
 -- early, late or never
 abbrev pub isWrong : Verdict → Bool

@@ -1,15 +1,8 @@
-// When the interrupt comes if the menu's handler runs at some moment, on which line that is, and what the picture side shows.
+// The menu at every clock: runs of clocks with one verdict, the moments that are wrong, and the bar.
 pub mod bar;
-pub mod lines;
-pub mod moment;
 pub mod runs;
-pub mod shown;
 pub mod tally;
-pub mod verdict;
 
-pub use moment::Came;
-pub use moment::Moment;
 pub use runs::Run;
 pub use runs::Sweep;
 pub use tally::Tally;
-pub use verdict::Verdict;

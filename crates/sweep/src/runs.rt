@@ -1,7 +1,7 @@
 // Runs of clocks at which the menu has one verdict.
-use crate::moment::came_after;
-use crate::verdict::Verdict;
-use crate::verdict::verdict_of;
+use moments::moment::came_after;
+use moments::verdict::Verdict;
+use moments::verdict::verdict_of;
 use vrc_irq::VrcIrq;
 ghost use mathlib.Core.Path.{_≡_};
 ghost use Prim.Native.Nat.{_<_};

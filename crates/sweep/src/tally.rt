@@ -1,8 +1,8 @@
 // The moments of a sweep that are wrong: how many, the first and the worst.
 use crate::runs::Run;
-use crate::verdict::NEVER;
-use crate::verdict::RIGHT;
-use crate::verdict::Verdict;
+use moments::verdict::NEVER;
+use moments::verdict::RIGHT;
+use moments::verdict::Verdict;
 ghost use mathlib.Core.Path.{_≡_};
 ghost use Prim.Native.Nat.{_<_};
 ghost use Rattle.sweep.specs.Tallies.{TalliedNone, TalliedOn, badness};

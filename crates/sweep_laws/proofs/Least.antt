@@ -15,7 +15,7 @@ use Rattle.vrc_irq.specs.Clocks.{First}
 use Rattle.vrc_irq.specs.Laws.{Exact}
 use Rattle.vrc_irq.proofs.Forecasts.{forecast-law}
 use Rattle.vrc_irq.proofs.Board.{pace, short-forecast-law}
-use Rattle.sweep.specs.Moments.{due, dueFrom}
+use Rattle.moments.specs.Moments.{due, dueFrom}
 use Rattle.sweep_laws.specs.Laws.{DueLaw}
 
 -- the clocks due of a counter that is enabled or not, by the formula f

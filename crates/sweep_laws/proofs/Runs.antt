@@ -30,8 +30,8 @@ use Rattle.calls.specs.declared.Call.the-variants.{Clock}
 use Rattle.ledger.specs.Ledger.{event}
 use Rattle.ledger.specs.Demand3.{weight}
 use Rattle.sweep_laws.specs.Counter.{counterAfter}
-use Rattle.sweep.specs.Moments.{due, dueFrom, dueWithin}
-use Rattle.sweep.proofs.Waiting.{beyond}
+use Rattle.moments.specs.Moments.{due, dueFrom, dueWithin}
+use Rattle.moments.proofs.Waiting.{beyond}
 use Rattle.sweep_laws.proofs.Least.{due-law}
 
 -- ---- the counters that a board can hold

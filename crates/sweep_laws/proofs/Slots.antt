@@ -16,7 +16,7 @@ use Rattle.layout.proofs.Entries.{offset-of}
 use Rattle.rule.specs.Rule.{base, bankCount}
 use Rattle.rule.proofs.Shown.{ends}
 use Rattle.tables.specs.Tables.{onePage}
-use Rattle.sweep.specs.Shown.{bankAt, bankShown, noBank}
+use Rattle.played.specs.Shown.{bankAt, bankShown, noBank}
 use Rattle.sweep_laws.specs.Banks.{BankLaw}
 
 -- an offset so many banks behind the start of CHR

@@ -17,7 +17,7 @@ use Rattle.sheet.specs.Steps.{codeOf, stepCoded, stepOf, waitOf}
 use Rattle.sheet.proofs.Codes.{code-law}
 use Rattle.sheet.proofs.Ranges.{said-law}
 use Rattle.played.specs.Played.{callsOf, stepCalls}
-use Rattle.sweep.specs.Moments.{due}
+use Rattle.moments.specs.Moments.{due}
 use Rattle.sweep.proofs.Running.{in-sweep}
 use Rattle.sweep_laws.specs.Rises.{Waits, cameAt}
 use Rattle.sweep_laws.specs.Laws.{Comes}

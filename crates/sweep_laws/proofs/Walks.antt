@@ -21,12 +21,12 @@ use Rattle.ledger.specs.Demand3.{weight, clockCount}
 use Rattle.sheet.specs.declared.step.Step.{Step}
 use Rattle.sheet.specs.declared.step.Step.the-variants.{Write, Clocks, Reset, Wrong}
 use Rattle.sheet.specs.Steps.{stepCoded, stepFrom}
-use Rattle.sweep.specs.declared.moment.Moment.{Moment}
-use Rattle.sweep.specs.declared.moment.Came.{Came}
-use Rattle.sweep.specs.declared.moment.Came.the-variants.{Never, On}
+use Rattle.moments.specs.declared.moment.Moment.{Moment}
+use Rattle.moments.specs.declared.moment.Came.{Came}
+use Rattle.moments.specs.declared.moment.Came.the-variants.{Never, On}
 use Rattle.played.specs.Played.{callsOf, stepCalls}
 use Rattle.sweep_laws.specs.Counter.{counterAfter}
-use Rattle.sweep.specs.Moments.{added, came, comingIn, due, dueWithin, ended, moment, played, taken, waited}
+use Rattle.moments.specs.Moments.{added, came, comingIn, due, dueWithin, ended, moment, played, taken, waited}
 use Rattle.sweep_laws.specs.Rises.{Found}
 use Rattle.sweep_laws.proofs.Runs.{Ready, rises, quiet, sets-within, within, first-due, quiet-due, due-low, ready-after, ready-taken, ready-zero}
 

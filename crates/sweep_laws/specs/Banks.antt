@@ -7,7 +7,7 @@ use Rattle.layout.specs.declared.regions.Src.the-variants.{Chr}
 use Rattle.layout.specs.Layout.{region, withinLimits}
 use Rattle.rule.specs.Rule.{bankCount}
 use Rattle.tables.specs.Tables.{onePage}
-use Rattle.sweep.specs.Shown.{bankShown}
+use Rattle.played.specs.Shown.{bankShown}
 
 -- of a layout within its limits that has CHR, an entry that a slot's window makes for bank v is told as bank v modulo the count of banks;
 -- every slot's entry is such a one (tables' `pictureEntries`)

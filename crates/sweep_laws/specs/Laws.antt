@@ -15,7 +15,7 @@ use Rattle.ledger.specs.Ledger.{event}
 use Rattle.ledger.specs.Demand3.{Each, weight, clockCount, start}
 use Rattle.played.specs.Played.{callsOf}
 use Rattle.sweep_laws.specs.Counter.{counterAfter}
-use Rattle.sweep.specs.Moments.{due}
+use Rattle.moments.specs.Moments.{due}
 use Rattle.sweep_laws.specs.Rises.{OfByte, Waits, Found, cameAt, risesAt, runAt}
 
 -- ---- the counter alone

@@ -15,9 +15,9 @@ use Rattle.calls.specs.Lists.{next}
 use Rattle.ledger.specs.Ledger.{event}
 use Rattle.ledger.specs.Demand3.{weight}
 use Rattle.played.specs.Played.{callsOf}
-use Rattle.sweep.specs.declared.moment.Came.{Came}
-use Rattle.sweep.specs.declared.moment.Came.the-variants.{Never, On}
-use Rattle.sweep.specs.Moments.{came, due, dueWithin, moment}
+use Rattle.moments.specs.declared.moment.Came.{Came}
+use Rattle.moments.specs.declared.moment.Came.the-variants.{Never, On}
+use Rattle.moments.specs.Moments.{came, due, dueWithin, moment}
 
 -- ---- the calls
 -- of k clocks, then a handler, then m clocks

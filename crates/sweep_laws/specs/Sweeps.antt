@@ -12,13 +12,13 @@ use Rattle.vrc6.specs.Calls.{create}
 use Rattle.calls.specs.Lists.{after}
 use Rattle.ledger.specs.Demand3.{Each, clockCount, start}
 use Rattle.sheet.specs.Steps.{codeOf, stepOf}
-use Rattle.sweep.specs.declared.moment.Came.{Came}
+use Rattle.moments.specs.declared.moment.Came.{Came}
 use Rattle.sweep.specs.declared.runs.Run.{Run}
 use Rattle.sweep.specs.declared.runs.Sweep.{Sweep}
-use Rattle.sweep.specs.declared.verdict.Verdict.{Verdict}
-use Rattle.sweep.specs.Moments.{due}
+use Rattle.moments.specs.declared.verdict.Verdict.{Verdict}
+use Rattle.moments.specs.Moments.{due}
 use Rattle.sweep.specs.Runs.{RunOf}
-use Rattle.sweep.specs.Verdicts.{verdictOf}
+use Rattle.moments.specs.Verdicts.{verdictOf}
 use Rattle.sweep_laws.specs.Rises.{Found, OfByte, risesAt, runAt}
 
 -- the steps of a menu's words, as their numbers

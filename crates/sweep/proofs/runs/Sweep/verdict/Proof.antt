@@ -1,7 +1,7 @@
 -- `verdict` meets its contract. Assumes nothing.
 use mathlib.Core.Path.{ap, _∙_}
-use Rattle.sweep.specs.declared.moment.Came.{Came}
-use Rattle.sweep.specs.Verdicts.{verdictOf}
+use Rattle.moments.specs.declared.moment.Came.{Came}
+use Rattle.moments.specs.Verdicts.{verdictOf}
 use borrow.Author.Needs.{needs}
 use Rattle.sweep.proofs.runs.Sweep.verdict.Statement.{statement}
 use Rattle.sweep.proofs.runs.Sweep.verdict.Tie as tie

@@ -1,0 +1,3 @@
+pub mod Handling
+pub mod Screen
+pub mod Waiting

@@ -1,0 +1,4 @@
+pub mod Lines
+pub mod Moments
+pub mod Verdicts
+pub mod Waits
