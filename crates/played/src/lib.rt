@@ -1,4 +1,5 @@
 // The steps of a sheet, played on a board, and the bank that a slot of it shows.
+pub mod ended;
 pub mod shown;
 
 use calls::Call;

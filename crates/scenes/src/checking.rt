@@ -1,7 +1,6 @@
 // A scene that was played: its letters, its window, and the sweep of its menu.
 use crate::letters::Checked;
 use crate::letters::check_letters;
-use crate::playing::Ended;
 use crate::scene::MOST_STEPS;
 use crate::scene::NO_WINDOW;
 use crate::scene::Scene;
@@ -18,6 +17,7 @@ use output::ROOM;
 use output::put;
 use output::put_number;
 use output::put_text;
+use played::ended::Ended;
 use report::put_verdict;
 use report::sweeping::put_found;
 use report::sweeping::sweep_clocks;

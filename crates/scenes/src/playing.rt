@@ -1,59 +1,11 @@
-// The writes of a scene, and then its menu, played on a board of its own. No call is refused on a board that was created: demand3,
-// crate ledger.
+// A scene on a board of its own, in buffers that hold any layout. No call is refused on a board that was created: demand3, crate
+// ledger.
 use crate::scene::MOST_STEPS;
 use crate::scene::Scene;
 use layout::MemoryLayout;
-use played::play;
-use played::shown::bank_shown;
-use told::create_numbered;
+use played::ended::Ended;
+use played::ended::play_scene;
 use vrc_irq::VrcIrq;
-use vrc6::Board;
-use vrc6::board::Created;
-
-// The counter and the banks that the eight slots show at the end of the writes, the banks that they show behind the menu, and
-// the number if the board was refused.
-pub struct Ended {
-    pub irq: VrcIrq,
-    pub banks: [u32; 8],
-    pub after_menu: [u32; 8],
-    pub refusal: u8,
-}
-
-fn banks_shown(layout: MemoryLayout, board: Board) -> [u32; 8] {
-    let pages = board.chr_pages;
-    [
-        bank_shown(layout, pages[0]),
-        bank_shown(layout, pages[1]),
-        bank_shown(layout, pages[2]),
-        bank_shown(layout, pages[3]),
-        bank_shown(layout, pages[4]),
-        bank_shown(layout, pages[5]),
-        bank_shown(layout, pages[6]),
-        bank_shown(layout, pages[7]),
-    ]
-}
-
-// No clock before the menu changes what it shows, so it is played at once.
-fn play_both(
-    layout: MemoryLayout,
-    created: Created,
-    fixed: &[u8],
-    changing: &mut [u8],
-    writes: &[u32],
-    menu: &[u32],
-) -> Ended {
-    let written = play(created.board, fixed, &mut *changing, writes);
-    let done = play(written, fixed, changing, menu);
-    let irq = written.irq;
-    let banks = banks_shown(layout, written);
-    let after_menu = banks_shown(layout, done);
-    Ended {
-        irq,
-        banks,
-        after_menu,
-        refusal: created.refusal,
-    }
-}
 
 fn none() -> Ended {
     Ended {
@@ -81,10 +33,10 @@ fn play_on(
     let m = scene.menu;
     if n <= first.len() {
         if m <= second.len() {
-            let created = create_numbered(layout, mirroring, revision, fixed, &*changing);
-            return play_both(
+            return play_scene(
                 layout,
-                created,
+                mirroring,
+                revision,
                 fixed,
                 changing,
                 &first[0..n],
