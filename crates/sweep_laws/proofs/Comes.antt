@@ -48,7 +48,7 @@ rise-law x k h c s =
     risen (x .board .banking .revision) (x .board .irq) c k (ap (λ (q : VrcIrq). q .«irq_pending») (sym (counter-law x k h .counter)) ∙ s)
 
 -- ---- no call of a list is refused
-abbrev Accepted : State → List Call → Type 0
+abbrev pub Accepted : State → List Call → Type 0
 Accepted x ks = Each (λ a. refusalIn a ≡ 0) (answers x ks)
 
 accepted-behind : (ws : List Call) (x : State) (ks : List Call) → Accepted x (ws ++ ks) → Accepted (after x ws) ks

@@ -21,7 +21,7 @@ use Rattle.moments.specs.Moments.{due}
 use Rattle.sweep.proofs.Running.{in-sweep}
 use Rattle.sweep_laws.specs.Rises.{Waits, cameAt}
 use Rattle.sweep_laws.specs.Laws.{Comes}
-use Rattle.sweep_laws.specs.Sweeps.{SweepLaw, menuCodes, sweepFrom}
+use Rattle.sweep_laws.specs.Sweeps.{SweepLaw, codesOf, sweepFrom}
 use Rattle.sweep_laws.proofs.Comes.{came-law, fine-behind, first-fine}
 use Rattle.sweep_laws.proofs.Runs.{Fine, due-low}
 use Rattle.sweep_laws.proofs.Walks.{count-joined, count-run}
@@ -38,12 +38,12 @@ word-waits w =
     subst (λ (s : Step). clockCount (stepCalls s) ≤ 1_000_000) (sym (code-law (stepOf w) (said-law w .in-range)))
     (omega (arith, waits (stepOf w), said-law w .wait))
 
-menu-waits : (words : List (List ℕ)) → clockCount (callsOf (menuCodes words)) ≤ 1_000_000 * length words
+menu-waits : (words : List (List ℕ)) → clockCount (callsOf (codesOf words)) ≤ 1_000_000 * length words
 menu-waits [] = omega arith
 menu-waits (w ∷ words) =
     omega (
       arith,
-      count-joined (stepCalls (stepCoded (codeOf (stepOf w)))) (callsOf (menuCodes words)),
+      count-joined (stepCalls (stepCoded (codeOf (stepOf w)))) (callsOf (codesOf words)),
       word-waits w,
       menu-waits words,
     )
@@ -60,9 +60,9 @@ sweep-law c h ws o x e clear words few window from r run j low high m =
     let soon : j < due q = omega (arith, run .within) in
     let still : Waits (after (start c) ws .board .irq) j = subst (λ (y : State). Waits (y .board .irq) j) e (waits-still q j clear soon) in
     record {
-      came = cameAt (x .board .banking .revision) q j (menuCodes words);
+      came = cameAt (x .board .banking .revision) q j (codesOf words);
       found =
-          subst (λ (y : State). Comes y j (menuCodes words) m) (sym e)
-          (came-law c h ws o j still (menuCodes words) (omega (arith, menu-waits words, due-low q fine)) m);
-      verdict = in-sweep (sweepFrom x window) (menuCodes words) q from (due q) r run j low high;
+          subst (λ (y : State). Comes y j (codesOf words) m) (sym e)
+          (came-law c h ws o j still (codesOf words) (omega (arith, menu-waits words, due-low q fine)) m);
+      verdict = in-sweep (sweepFrom x window) (codesOf words) q from (due q) r run j low high;
     }

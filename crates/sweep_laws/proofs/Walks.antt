@@ -61,13 +61,13 @@ settled b (code ∷ codes) m h =
     ap (λ (c : Bool). played b codes (cond c m (taken b (stepCoded code) m))) h ∙ settled b codes m h
 
 -- a step that writes a byte
-abbrev ByteStep : Step → Type 0
+abbrev pub ByteStep : Step → Type 0
 ByteStep (Write a v) = v ≤ 255
 ByteStep (Clocks n) = Unit {0}
 ByteStep Reset = Unit {0}
 ByteStep (Wrong n) = Unit {0}
 
-byte-step : (kind low : ℕ) → ByteStep (stepFrom kind low)
+pub byte-step : (kind low : ℕ) → ByteStep (stepFrom kind low)
 byte-step zero low = omega arith
 byte-step (suc zero) low = tt
 byte-step (suc (suc zero)) low = tt

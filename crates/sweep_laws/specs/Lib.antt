@@ -2,4 +2,5 @@ pub mod Banks
 pub mod Counter
 pub mod Laws
 pub mod Rises
+pub mod Scenes
 pub mod Sweeps

@@ -21,9 +21,9 @@ use Rattle.sweep.specs.Runs.{RunOf}
 use Rattle.moments.specs.Verdicts.{verdictOf}
 use Rattle.sweep_laws.specs.Rises.{Found, OfByte, risesAt, runAt}
 
--- the steps of a menu's words, as their numbers
-abbrev pub menuCodes : (words : List (List ℕ)) → List ℕ
-menuCodes words = map (λ w. codeOf (stepOf w)) words
+-- the steps of a cell's words, as their numbers
+abbrev pub codesOf : (words : List (List ℕ)) → List ℕ
+codesOf words = map (λ w. codeOf (stepOf w)) words
 
 -- the sweep from a board at the end of the writes
 abbrev pub sweepFrom : State → (window : ℕ) → Sweep
@@ -43,5 +43,5 @@ abbrev pub SweepLaw : Type 0
 SweepLaw =
     (c : Creation) → create c .refusal ≡ 0 → (ws : List Call) → Each OfByte ws → (x : State) → x ≡ after (start c) ws
     → x .board .irq .«irq_pending» ≡ false → (words : List (List ℕ)) → length words ≤ 4_096 → (window from : ℕ) (r : Run)
-    → RunOf (sweepFrom x window) (menuCodes words) (irqAfter step line from (x .board .irq)) from (due (x .board .irq)) r
-    → (j : ℕ) → from ≤ j → j < r .to → (m : ℕ) → HasVerdict x j (menuCodes words) m window (r .verdict)
+    → RunOf (sweepFrom x window) (codesOf words) (irqAfter step line from (x .board .irq)) from (due (x .board .irq)) r
+    → (j : ℕ) → from ≤ j → j < r .to → (m : ℕ) → HasVerdict x j (codesOf words) m window (r .verdict)

@@ -1,0 +1,99 @@
+-- What the tool tells of a scene is what the board does. Assumes nothing.
+use mathlib.Core.Path.{_≡_, refl, sym, ap, subst, _∙_}
+use mathlib.Core.Bool.{Bool}
+use mathlib.Core.List.{List, [], _∷_, _++_}
+use Prim.Native.Nat.{ℕ, zero, suc, _/_, _%_}
+use lib.ListN.{replicate}
+use Rattle.basics.specs.Refusals.{unless}
+use Rattle.vrc_irq.specs.Board.{step, line}
+use Rattle.vrc_irq.specs.Clocks.{irqAfter}
+use Rattle.banks.specs.Banking.{isB}
+use Rattle.calls.specs.declared.Call.{Call}
+use Rattle.calls.specs.declared.Call.the-variants.{Clock}
+use Rattle.vrc6.specs.declared.board.Created.{Created}
+use Rattle.vrc6.specs.Boards.{State, Creation, heldBy, newBoard, zeroBoard}
+use Rattle.vrc6.specs.Calls.{create}
+use Rattle.calls.specs.Lists.{next, after}
+use Rattle.ledger.specs.Demand3.{Each, start}
+use Rattle.ledger.proofs.Whole.{demand3}
+use Rattle.told.proofs.Numbers.{numbered-law}
+use Rattle.sheet.specs.declared.step.Step.{Step}
+use Rattle.sheet.specs.declared.step.Step.the-variants.{Write, Clocks, Reset, Wrong}
+use Rattle.sheet.specs.Steps.{stepCoded}
+use Rattle.played.specs.Ended.{endIn}
+use Rattle.played.specs.Played.{callsOf, stepCalls}
+use Rattle.moments.specs.Moments.{due}
+use Rattle.sweep.specs.Runs.{RunOf}
+use Rattle.sweep_laws.specs.Rises.{OfByte}
+use Rattle.sweep_laws.specs.Sweeps.{codesOf}
+use Rattle.sweep_laws.specs.Scenes.{SceneLaw, SceneOf, endFrom, written}
+use Rattle.sweep_laws.proofs.Boarded.{counter-law}
+use Rattle.sweep_laws.proofs.Comes.{Accepted}
+use Rattle.sweep_laws.proofs.Sweeping.{sweep-law}
+use Rattle.sweep_laws.proofs.Walks.{ByteStep, byte-step}
+
+-- ---- the calls of steps write bytes
+each-joined : {A : Type 0} (P : A → Type 0) (xs ys : List A) → Each P xs → Each P ys → Each P (xs ++ ys)
+each-joined P [] ys h k = k
+each-joined P (x ∷ xs) ys h k = (h .0, each-joined P xs ys (h .1) k)
+
+clocks-bytes : (n : ℕ) → Each OfByte (replicate n Clock)
+clocks-bytes zero = tt
+clocks-bytes (suc n) = (tt, clocks-bytes n)
+
+step-bytes : (s : Step) → ByteStep s → Each OfByte (stepCalls s)
+step-bytes (Write a v) h = (h, tt)
+step-bytes (Clocks n) h = clocks-bytes n
+step-bytes Reset h = (tt, tt)
+step-bytes (Wrong n) h = tt
+
+bytes : (codes : List ℕ) → Each OfByte (callsOf codes)
+bytes [] = tt
+bytes (code ∷ codes) =
+    each-joined OfByte (stepCalls (stepCoded code)) (callsOf codes)
+    (step-bytes (stepCoded code) (byte-step (code / 0x1000000) (code % 0x1000000))) (bytes codes)
+
+-- ---- the revision is creation's
+revision-behind : (ws : List Call) (x : State) → Accepted x ws → after x ws .board .banking .revision ≡ x .board .banking .revision
+revision-behind [] x h = refl
+revision-behind (w ∷ ws) x h = revision-behind ws (next x w) (h .1) ∙ counter-law x w (h .0) .revision
+
+first-revision : (c : Creation) → create c .refusal ≡ 0 → start c .board .banking .revision ≡ isB (c .revision)
+first-revision c h =
+    ap (λ (n : ℕ). unless n (newBoard (c .layout) (c .mirroring) (c .revision)) zeroBoard .banking .revision) h
+
+module _ (c : Creation) (h : create c .refusal ≡ 0) (ws ms : List (List ℕ)) where
+  abbrev x : State
+  x = written c ws
+
+  -- the board by numbers is the board
+  same : endFrom c ws ms ≡ endIn (c .layout) (create c .refusal) x (after x (callsOf (codesOf ms)))
+  same =
+      ap
+      (λ (k : Created).
+      let y = after (heldBy (k .board) (c .fixed) (c .changing)) (callsOf (codesOf ws)) in
+      endIn (c .layout) (k .refusal) y (after y (callsOf (codesOf ms))))
+      (numbered-law c)
+
+  revised : x .board .banking .revision ≡ isB (c .revision)
+  revised = revision-behind (callsOf (codesOf ws)) (start c) (demand3 c h (callsOf (codesOf ws)) .accepted) ∙ first-revision c h
+
+pub scene-law : SceneLaw
+scene-law c h ws ms =
+    let y = written c ws in
+    let q = y .board .irq in
+    subst (SceneOf c ws ms) (sym (same c h ws ms))
+    (record {
+      accepted = h;
+      counter = refl;
+      banks = refl;
+      behind = refl;
+      sweep =
+          λ clear few window from r run j low high m.
+          sweep-law c h (callsOf (codesOf ws)) (bytes (codesOf ws)) y refl clear ms few window from r
+          (subst
+          (λ (b : Bool).
+          RunOf (record { prescaler = q .«prescalar_counter»; «revision_b» = b; window = window }) (codesOf ms) (irqAfter step line from q) from (due q) r)
+          (sym (revised c h ws ms)) run)
+          j low high m;
+    })
