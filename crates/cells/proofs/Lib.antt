@@ -5,3 +5,4 @@ pub mod RoundTrip
 pub mod Rows
 pub mod Same
 pub mod Spans
+pub mod Walking

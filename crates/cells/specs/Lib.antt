@@ -5,3 +5,4 @@ pub mod Laws
 pub mod Marks
 pub mod Names
 pub mod Places
+pub mod Rows

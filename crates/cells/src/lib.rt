@@ -2,6 +2,7 @@
 // without a carriage return. A cell in quotes may hold commas and line ends, and a doubled quote for each quote.
 pub mod choices;
 pub mod columns;
+pub mod lookup;
 pub mod marks;
 mod names;
 

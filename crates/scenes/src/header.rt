@@ -1,13 +1,16 @@
-// The header row: which cell of a row each column is.
+// The header row: whether its columns will do.
 use crate::faults::put_cell;
 use crate::faults::put_row_fault;
 use cells::cell_at;
 use cells::columns::column_of;
+use cells::lookup::Found;
+use cells::lookup::find_column;
 use output::ROOM;
 use output::put_text;
 
-// The header's end, how many cells it has, whether it will do, and how many bytes the output buffer holds.
+// Where the header starts and ends, how many cells it has, whether it will do, and how many bytes the output buffer holds.
 pub struct Header {
+    pub start: usize,
     pub next: usize,
     pub cells: usize,
     pub good: bool,
@@ -27,30 +30,37 @@ fn put_named(
     put_text(out, b, behind)
 }
 
-// Takes a header cell as cell number `cells`, from 1.
-fn take_name(
+// Whether a column's first cell is the one that has k cells before it.
+fn is_first(text: &[u8], header: usize, column: u8, k: usize) -> bool {
+    match find_column(text, header, column) {
+        Found::At(first) => first == k,
+        Found::Missing => false,
+    }
+}
+
+// Tells of a header cell that is no column, or a column again. The header is at its next cell.
+fn tell_name(
     header: Header,
-    columns: &mut [usize; 9],
     out: &mut [u8; ROOM],
+    text: &[u8],
     name: &[u8],
     quoted: bool,
 ) -> Header {
     let mut next = header;
-    let column = column_of(name) as usize;
+    let column = column_of(name);
     if column < 9 {
-        if columns[column] != 0 {
-            next.good = false;
-            next.len = put_named(
-                out,
-                header.len,
-                b"row 1: two columns are named '",
-                name,
-                quoted,
-                b"'\n",
-            );
+        if is_first(text, header.start, column, header.cells) {
             return next;
         }
-        columns[column] = header.cells;
+        next.good = false;
+        next.len = put_named(
+            out,
+            header.len,
+            b"row 1: two columns are named '",
+            name,
+            quoted,
+            b"'\n",
+        );
         return next;
     }
     if name.len() > 0 {
@@ -77,15 +87,11 @@ fn header_start(text: &[u8]) -> usize {
     0
 }
 
-// The columns of cells 1, 2, ..; 0 for a column that the sheet does not have.
-pub(crate) fn read_header(
-    text: &[u8],
-    columns: &mut [usize; 9],
-    out: &mut [u8; ROOM],
-    len: usize,
-) -> Header {
+pub(crate) fn read_header(text: &[u8], out: &mut [u8; ROOM], len: usize) -> Header {
+    let start = header_start(text);
     let mut header = Header {
-        next: header_start(text),
+        start,
+        next: start,
         cells: 0,
         good: true,
         len,
@@ -94,11 +100,11 @@ pub(crate) fn read_header(
     while left > 0 {
         left -= 1;
         let cell = cell_at(text, header.next);
-        header.next = cell.next;
-        header.cells = std::num::wrapping_add_usize(header.cells, 1);
         let from = cell.from;
         let to = cell.to;
-        header = take_name(header, columns, out, &text[from..to], cell.quoted);
+        header = tell_name(header, out, text, &text[from..to], cell.quoted);
+        header.next = cell.next;
+        header.cells = std::num::wrapping_add_usize(header.cells, 1);
         if cell.wrong != 0 {
             header.good = false;
             header.len = put_row_fault(

@@ -3,7 +3,8 @@ use crate::faults::LETTERS;
 use crate::faults::Place;
 use crate::faults::put_fault;
 use crate::faults::put_room_fault;
-use crate::row::span_of;
+use crate::row::Starts;
+use crate::row::cell_in;
 use crate::scene::MOST_STEPS;
 use output::ROOM;
 use sheet::Step;
@@ -139,7 +140,7 @@ fn take_word(
 // A column's words: its steps go to codes, its pairs to banks.
 pub(crate) fn read_words(
     text: &[u8],
-    spans: &[usize; 27],
+    starts: Starts,
     codes: &mut [u32; MOST_STEPS],
     banks: &mut [u32; 8],
     out: &mut [u8; ROOM],
@@ -152,7 +153,7 @@ pub(crate) fn read_words(
         good: true,
         len,
     };
-    let span = span_of(spans, column);
+    let span = cell_in(text, starts, column);
     let place = Place {
         row,
         column,

@@ -11,7 +11,8 @@ use crate::faults::WRITES;
 use crate::faults::put_fault;
 use crate::lists::clear;
 use crate::lists::read_words;
-use crate::row::span_of;
+use crate::row::Starts;
+use crate::row::cell_in;
 use crate::scene::MOST_STEPS;
 use crate::scene::NO_WINDOW;
 use crate::scene::Scene;
@@ -96,14 +97,14 @@ fn word_cell(out: &mut [u8; ROOM], len: usize, at: Place, word: &[u8], none: u32
 // A cell of one word; `none` stands for an empty one.
 fn single_cell(
     text: &[u8],
-    spans: &[usize; 27],
+    starts: Starts,
     out: &mut [u8; ROOM],
     len: usize,
     row: u32,
     column: usize,
     none: u32,
 ) -> Single {
-    let span = span_of(spans, column);
+    let span = cell_in(text, starts, column);
     let from = span.from;
     let to = span.to;
     if to <= text.len() {
@@ -136,17 +137,17 @@ fn single_cell(
 // The cells of one word.
 fn read_singles(
     text: &[u8],
-    spans: &[usize; 27],
+    starts: Starts,
     out: &mut [u8; ROOM],
     given: Scene,
     row: u32,
 ) -> Scene {
     let mut scene = given;
-    let prg = single_cell(text, spans, out, scene.len, row, PRG, given.prg);
-    let chr = single_cell(text, spans, out, prg.len, row, CHR, given.chr);
-    let revision = single_cell(text, spans, out, chr.len, row, REVISION, 0);
-    let mirroring = single_cell(text, spans, out, revision.len, row, MIRRORING, 0);
-    let window = single_cell(text, spans, out, mirroring.len, row, WINDOW, NO_WINDOW);
+    let prg = single_cell(text, starts, out, scene.len, row, PRG, given.prg);
+    let chr = single_cell(text, starts, out, prg.len, row, CHR, given.chr);
+    let revision = single_cell(text, starts, out, chr.len, row, REVISION, 0);
+    let mirroring = single_cell(text, starts, out, revision.len, row, MIRRORING, 0);
+    let window = single_cell(text, starts, out, mirroring.len, row, WINDOW, NO_WINDOW);
     scene.prg = prg.value;
     scene.chr = chr.value;
     scene.revision_b = revision.value == 1;
@@ -160,7 +161,7 @@ fn read_singles(
 // The whole row. The steps and the banks asked go into the arrays.
 pub(crate) fn read_scene(
     text: &[u8],
-    spans: &[usize; 27],
+    starts: Starts,
     writes: &mut [u32; MOST_STEPS],
     menu: &mut [u32; MOST_STEPS],
     banks: &mut [u32; 8],
@@ -168,12 +169,12 @@ pub(crate) fn read_scene(
     len: usize,
     row: u32,
 ) -> Scene {
-    let mut scene = read_singles(text, spans, out, Scene::new(len), row);
+    let mut scene = read_singles(text, starts, out, Scene::new(len), row);
     let good = scene.good;
     clear(banks);
-    let first = read_words(text, spans, writes, banks, out, scene.len, row, WRITES);
-    let second = read_words(text, spans, menu, banks, out, first.len, row, MENU);
-    let letters = read_words(text, spans, menu, banks, out, second.len, row, LETTERS);
+    let first = read_words(text, starts, writes, banks, out, scene.len, row, WRITES);
+    let second = read_words(text, starts, menu, banks, out, first.len, row, MENU);
+    let letters = read_words(text, starts, menu, banks, out, second.len, row, LETTERS);
     scene.writes = first.count;
     scene.menu = second.count;
     scene.len = letters.len;

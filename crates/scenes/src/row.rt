@@ -1,13 +1,19 @@
-// A row's cells, found by the header's columns.
+// A row: its cells, and what is wrong with their quotes.
 use crate::faults::put_cell_fault;
 use crate::faults::put_row_fault;
 use cells::Cell;
 use cells::UNCLOSED;
 use cells::cell_at;
+use cells::columns::column_of;
+use cells::lookup::cell_under;
+use cells::lookup::nth_cell;
 use output::ROOM;
 
-// For each of the nine columns where its cell starts and ends, and 1 if it is in quotes; all 0 for one that is missing.
-pub const SPANS: usize = 27;
+// Where the header and a row start.
+pub struct Starts {
+    pub header: usize,
+    pub row: usize,
+}
 
 // A row's end, how many cells it has, whether one of them is not empty, what is wrong, and the output buffer's bytes.
 pub struct Row {
@@ -18,47 +24,20 @@ pub struct Row {
     pub len: usize,
 }
 
-// A column's cell.
-pub struct Span {
-    pub from: usize,
-    pub to: usize,
-    pub quoted: bool,
+// The row's cell in a column.
+pub(crate) fn cell_in(text: &[u8], starts: Starts, column: usize) -> Cell {
+    cell_under(text, starts.header, starts.row, (column % 256) as u8)
 }
 
-pub(crate) fn span_of(spans: &[usize; 27], column: usize) -> Span {
-    if column < 9 {
-        return Span {
-            from: spans[3 * column],
-            to: spans[3 * column + 1],
-            quoted: spans[3 * column + 2] == 1,
-        };
-    }
-    Span {
-        from: 0,
-        to: 0,
-        quoted: false,
-    }
-}
-
-fn clear(spans: &mut [usize; 27]) {
-    let mut i: usize = 0;
-    while i < 27 {
-        spans[i] = 0;
-        i += 1;
-    }
-}
-
-// Keeps a cell where the header has a column for its number; the column, 9 for none.
-fn keep(spans: &mut [usize; 27], columns: &[usize; 9], number: usize, cell: Cell) -> usize {
-    let mut column: usize = 0;
-    while column < 9 {
-        if columns[column] == number {
-            spans[3 * column] = cell.from;
-            spans[3 * column + 1] = cell.to;
-            spans[3 * column + 2] = cell.quoted as usize;
-            return column;
+// The column of the header cell that has k cells before it, 9 for none.
+fn column_at(text: &[u8], header: usize, k: usize) -> usize {
+    let cell = nth_cell(text, header, k);
+    let from = cell.from;
+    let to = cell.to;
+    if to <= text.len() {
+        if from <= to {
+            return column_of(&text[from..to]) as usize;
         }
-        column += 1;
     }
     9
 }
@@ -96,8 +75,8 @@ fn put_wrong(out: &mut [u8; ROOM], len: usize, row: u32, column: usize, wrong: u
 // Takes the next cell.
 fn take(
     given: Row,
-    spans: &mut [usize; 27],
-    columns: &[usize; 9],
+    text: &[u8],
+    starts: Starts,
     out: &mut [u8; ROOM],
     number: u32,
     cell: Cell,
@@ -108,27 +87,24 @@ fn take(
     if (cell.from != cell.to) | cell.quoted {
         row.filled = true;
     }
-    let column = keep(spans, columns, row.cells, cell);
     if cell.wrong != 0 {
+        let column = column_at(text, starts.header, given.cells);
         row.good = false;
         row.len = put_wrong(out, given.len, number, column, cell.wrong);
     }
     row
 }
 
-// The row that starts at `start`.
+// The row with its number, as a spreadsheet shows it.
 pub(crate) fn read_row(
     text: &[u8],
-    start: usize,
-    columns: &[usize; 9],
-    spans: &mut [usize; 27],
+    starts: Starts,
     out: &mut [u8; ROOM],
     len: usize,
     number: u32,
 ) -> Row {
-    clear(spans);
     let mut row = Row {
-        next: start,
+        next: starts.row,
         cells: 0,
         filled: false,
         good: true,
@@ -139,7 +115,7 @@ pub(crate) fn read_row(
         left -= 1;
         let cell = cell_at(text, row.next);
         let last = cell.last;
-        row = take(row, spans, columns, out, number, cell);
+        row = take(row, text, starts, out, number, cell);
         if last {
             return row;
         }

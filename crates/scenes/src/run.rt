@@ -9,11 +9,14 @@ use crate::header::Header;
 use crate::header::read_header;
 use crate::playing::play_steps;
 use crate::reading::read_scene;
+use crate::row::Starts;
+use crate::row::cell_in;
 use crate::row::read_row;
-use crate::row::span_of;
 use crate::scene::MOST_STEPS;
 use crate::scene::Scene;
 use crate::totals::Totals;
+use cells::lookup::Found;
+use cells::lookup::find_column;
 use libc::STDERR_FILENO;
 use output::ROOM;
 use output::flush;
@@ -29,9 +32,9 @@ const MOST_BYTES: usize = 2097152;
 const PROGRESS: u64 = 500000;
 
 // The row's number, and the scene's name if it has one.
-fn put_name(out: &mut [u8; ROOM], len: usize, row: u32, text: &[u8], spans: &[usize; 27]) -> usize {
+fn put_name(out: &mut [u8; ROOM], len: usize, row: u32, text: &[u8], starts: Starts) -> usize {
     let a = put_row(out, len, row);
-    let span = span_of(spans, SCENE);
+    let span = cell_in(text, starts, SCENE);
     let from = span.from;
     let to = span.to;
     if from < to {
@@ -65,7 +68,7 @@ fn play_scene(
 fn play_cells(
     totals: Totals,
     text: &[u8],
-    spans: &[usize; 27],
+    starts: Starts,
     fixed: &[u8],
     changing: &mut [u8],
     out: &mut [u8; ROOM],
@@ -75,7 +78,7 @@ fn play_cells(
     let mut asked = [0u32; 8];
     let scene = read_scene(
         text,
-        spans,
+        starts,
         &mut writes,
         &mut menu,
         &mut asked,
@@ -86,7 +89,7 @@ fn play_cells(
     if !scene.good {
         return totals.bad_row(scene.len);
     }
-    let len = put_name(out, scene.len, totals.row, text, spans);
+    let len = put_name(out, scene.len, totals.row, text, starts);
     let named = totals.holding(len);
     play_scene(named, scene, fixed, changing, &writes, &menu, asked, out)
 }
@@ -114,23 +117,17 @@ struct Played {
 fn play_row(
     totals: Totals,
     header: Header,
-    columns: &[usize; 9],
     text: &[u8],
     start: usize,
     fixed: &[u8],
     changing: &mut [u8],
     out: &mut [u8; ROOM],
 ) -> Played {
-    let mut spans = [0usize; 27];
-    let row = read_row(
-        text,
-        start,
-        columns,
-        &mut spans,
-        out,
-        totals.len,
-        totals.row,
-    );
+    let starts = Starts {
+        header: header.start,
+        row: start,
+    };
+    let row = read_row(text, starts, out, totals.len, totals.row);
     let next = row.next;
     if !row.good {
         let totals = totals.bad_row(row.len);
@@ -146,7 +143,7 @@ fn play_row(
         let totals = totals.bad_row(len);
         return Played { totals, next };
     }
-    let totals = play_cells(totals.holding(row.len), text, &spans, fixed, changing, out);
+    let totals = play_cells(totals.holding(row.len), text, starts, fixed, changing, out);
     Played {
         totals: tell(totals),
         next,
@@ -185,14 +182,7 @@ fn finish(totals: Totals, out: &mut [u8; ROOM]) {
     flush(out, g);
 }
 
-fn play_rows(
-    header: Header,
-    columns: &[usize; 9],
-    text: &[u8],
-    fixed: &[u8],
-    changing: &mut [u8],
-    out: &mut [u8; ROOM],
-) {
+fn play_rows(header: Header, text: &[u8], fixed: &[u8], changing: &mut [u8], out: &mut [u8; ROOM]) {
     let mut totals = Totals::new(header.len);
     let mut at = header.next;
     let mut left = text.len();
@@ -202,24 +192,22 @@ fn play_rows(
             finish(totals, out);
             return;
         }
-        let played = play_row(
-            totals.next_row(),
-            header,
-            columns,
-            text,
-            at,
-            fixed,
-            changing,
-            out,
-        );
+        let played = play_row(totals.next_row(), header, text, at, fixed, changing, out);
         totals = played.totals;
         at = played.next;
     }
     finish(totals, out);
 }
 
+fn has_writes(text: &[u8], header: usize) -> bool {
+    match find_column(text, header, WRITES as u8) {
+        Found::At(_) => true,
+        Found::Missing => false,
+    }
+}
+
 // Whether a sheet with this header can be played; told if not.
-fn will_do(header: Header, columns: &[usize; 9], text: &[u8], out: &mut [u8; ROOM]) -> bool {
+fn will_do(header: Header, text: &[u8], out: &mut [u8; ROOM]) -> bool {
     if MOST_BYTES < text.len() {
         let len = put_text(out, header.len, b"the sheet is longer than 2097152 bytes\n");
         flush(out, len);
@@ -230,7 +218,7 @@ fn will_do(header: Header, columns: &[usize; 9], text: &[u8], out: &mut [u8; ROO
         flush(out, len);
         return false;
     }
-    if columns[WRITES] == 0 {
+    if !has_writes(text, header.start) {
         let len = put_row_fault(out, header.len, 1, b"no column is named 'writes'");
         flush(out, len);
         return false;
@@ -247,9 +235,8 @@ pub(crate) fn run(
     text: &[u8],
     out: &mut [u8; ROOM],
 ) {
-    let mut columns = [0usize; 9];
-    let header = read_header(text, &mut columns, out, 0);
-    if will_do(header, &columns, text, out) {
-        play_rows(header, &columns, text, fixed, changing, out);
+    let header = read_header(text, out, 0);
+    if will_do(header, text, out) {
+        play_rows(header, text, fixed, changing, out);
     }
 }

@@ -1,14 +1,13 @@
 -- `read_header` is safe and ends. Assumes nothing.
-use Prim.Native.Nat.{}
 use borrow.Author.Needs.{needs}
 use Rattle.scenes.proofs.header.read_header.Statement.{statement}
 use Rattle.scenes.proofs.header.read_header.Tie as tie
 
 abbrev Inv-loop : tie.InvT-loop
-Inv-loop text columns₀ out₀ len header₀ left₀ t10 columns out header left = Unit {0}
+Inv-loop text out₀ len start header₀ left₀ t10 out header left = Unit {0}
 
 abbrev μ-loop : tie.MeasureT-loop
-μ-loop text columns₀ out₀ len header₀ left₀ t10 columns out header left = left
+μ-loop text out₀ len start header₀ left₀ t10 out header left = left
 
 header-start-requires : tie.Need-header-start-requires Inv-loop μ-loop
 header-start-requires c κs = search needs
@@ -25,20 +24,20 @@ sub-left c = search needs
 cell-at-requires : tie.Need-cell-at-requires Inv-loop μ-loop
 cell-at-requires c κs = search needs
 
+sub-tell-name : tie.Need-sub-tell-name Inv-loop μ-loop
+sub-tell-name c = search needs
+
+part-tell-name-start : tie.Need-part-tell-name-start Inv-loop μ-loop
+part-tell-name-start c = search needs
+
+part-tell-name-end : tie.Need-part-tell-name-end Inv-loop μ-loop
+part-tell-name-end c = search needs
+
+tell-name-requires : tie.Need-tell-name-requires Inv-loop μ-loop
+tell-name-requires c κs = search needs
+
 wrapping-add-usize-requires-2 : tie.Need-wrapping-add-usize-requires-2 Inv-loop μ-loop
 wrapping-add-usize-requires-2 c κs = search needs
-
-sub-take-name : tie.Need-sub-take-name Inv-loop μ-loop
-sub-take-name c = search needs
-
-part-take-name-start : tie.Need-part-take-name-start Inv-loop μ-loop
-part-take-name-start c = search needs
-
-part-take-name-end : tie.Need-part-take-name-end Inv-loop μ-loop
-part-take-name-end c = search needs
-
-take-name-requires : tie.Need-take-name-requires Inv-loop μ-loop
-take-name-requires c κs = search needs
 
 slice-aggregate-put-row-fault : tie.Need-slice-aggregate-put-row-fault Inv-loop μ-loop
 slice-aggregate-put-row-fault c = search needs
@@ -69,11 +68,11 @@ read-header-spec =
     loop-holds
     sub-left
     cell-at-requires
+    sub-tell-name
+    part-tell-name-start
+    part-tell-name-end
+    tell-name-requires
     wrapping-add-usize-requires-2
-    sub-take-name
-    part-take-name-start
-    part-take-name-end
-    take-name-requires
     slice-aggregate-put-row-fault
     put-row-fault-requires
     returns

@@ -4,13 +4,13 @@ use Rattle.scenes.proofs.lists.read_words.Statement.{statement}
 use Rattle.scenes.proofs.lists.read_words.Tie as tie
 
 abbrev Inv-loop : tie.InvT-loop
-Inv-loop text spans codes₀ banks₀ out₀ len row column words₀ place at₀ end left₀ codes banks out words at left = Unit {0}
+Inv-loop text codes₀ banks₀ out₀ len row column words₀ place at₀ end left₀ codes banks out words at left = Unit {0}
 
 abbrev μ-loop : tie.MeasureT-loop
-μ-loop text spans codes₀ banks₀ out₀ len row column words₀ place at₀ end left₀ codes banks out words at left = left
+μ-loop text codes₀ banks₀ out₀ len row column words₀ place at₀ end left₀ codes banks out words at left = left
 
-span-of-requires : tie.Need-span-of-requires Inv-loop μ-loop
-span-of-requires c κs = search needs
+cell-in-requires : tie.Need-cell-in-requires Inv-loop μ-loop
+cell-in-requires c κs = search needs
 
 returns : tie.Need-returns Inv-loop μ-loop
 returns c = search needs
@@ -69,7 +69,7 @@ read-words-spec =
     (tie.spec
     Inv-loop
     μ-loop
-    span-of-requires
+    cell-in-requires
     returns
     loop-holds
     sub-left

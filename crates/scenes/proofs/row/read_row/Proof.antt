@@ -1,17 +1,13 @@
 -- `read_row` is safe and ends. Assumes nothing.
-use Prim.Native.Nat.{}
 use borrow.Author.Needs.{needs}
 use Rattle.scenes.proofs.row.read_row.Statement.{statement}
 use Rattle.scenes.proofs.row.read_row.Tie as tie
 
 abbrev Inv-loop : tie.InvT-loop
-Inv-loop text start columns spans₀ out₀ len number row₀ left₀ spans out row left = Unit {0}
+Inv-loop text starts out₀ len number row₀ left₀ out row left = Unit {0}
 
 abbrev μ-loop : tie.MeasureT-loop
-μ-loop text start columns spans₀ out₀ len number row₀ left₀ spans out row left = left
-
-clear-requires : tie.Need-clear-requires Inv-loop μ-loop
-clear-requires c κs = search needs
+μ-loop text starts out₀ len number row₀ left₀ out row left = left
 
 wrapping-add-usize-requires : tie.Need-wrapping-add-usize-requires Inv-loop μ-loop
 wrapping-add-usize-requires c κs = search needs
@@ -46,7 +42,6 @@ read-row-spec =
     (tie.spec
     Inv-loop
     μ-loop
-    clear-requires
     wrapping-add-usize-requires
     loop-holds
     sub-left

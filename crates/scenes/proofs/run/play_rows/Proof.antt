@@ -6,10 +6,10 @@ use Rattle.scenes.proofs.run.play_rows.Statement.{statement}
 use Rattle.scenes.proofs.run.play_rows.Tie as tie
 
 abbrev Inv-loop : tie.InvT-loop
-Inv-loop header columns text fixed changing₀ out₀ totals₀ at₀ left₀ changing out totals at left = length changing ≡ length changing₀
+Inv-loop header text fixed changing₀ out₀ totals₀ at₀ left₀ changing out totals at left = length changing ≡ length changing₀
 
 abbrev μ-loop : tie.MeasureT-loop
-μ-loop header columns text fixed changing₀ out₀ totals₀ at₀ left₀ changing out totals at left = left
+μ-loop header text fixed changing₀ out₀ totals₀ at₀ left₀ changing out totals at left = left
 
 new-requires : tie.Need-new-requires Inv-loop μ-loop
 new-requires c κs = search needs
