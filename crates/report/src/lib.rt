@@ -43,12 +43,17 @@ pub fn put_verdict(out: &mut [u8; ROOM], len: usize, verdict: Verdict) -> usize 
     put_off(out, b, verdict)
 }
 
-// A run of clocks with one verdict. The first of a sweep is headed by a word, the others stand below it.
-pub fn put_run(out: &mut [u8; ROOM], len: usize, from: u32, to: u32, verdict: Verdict) -> usize {
-    let mut a = put_text(out, len, b"         ");
+// The first run of a sweep is headed by a word, the others stand below it.
+fn put_head(out: &mut [u8; ROOM], len: usize, from: u32) -> usize {
     if from == 0 {
-        a = put_text(out, len, b"  clocks ");
+        return put_text(out, len, b"  clocks ");
     }
+    put_text(out, len, b"         ")
+}
+
+// A run of clocks with one verdict.
+pub fn put_run(out: &mut [u8; ROOM], len: usize, from: u32, to: u32, verdict: Verdict) -> usize {
+    let a = put_head(out, len, from);
     let b = put_number(out, a, from);
     let c = put_text(out, b, b"..");
     let d = put_number(out, c, to);
