@@ -27,7 +27,7 @@ beyond n d l h =
     leb-false d n (ap (λ (b : Bool). not b && leb d n) (sym (ne-eqb d 0 (λ z. omega arith))) ∙ h)
 
 -- an interrupt that is due comes after a clock or more
-some-due : (f : ℕ) → 1 ≤ cond (eqb f 0) 1 f
+pub some-due : (f : ℕ) → 1 ≤ cond (eqb f 0) 1 f
 some-due f =
     tested (eqb f 0) (λ e. rw e (omega arith)) (λ e. rw e (omega (arith, eqb-false f 0 e)))
 

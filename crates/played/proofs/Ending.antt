@@ -9,7 +9,7 @@ use Rattle.vrc6.specs.Boards.{State, heldBy}
 use Rattle.calls.specs.Lists.{after}
 use Rattle.told.specs.Told.{createdBy}
 use Rattle.played.specs.declared.ended.Ended.{Ended}
-use Rattle.played.specs.Ended.{endIn, endOf, newState, slotsShown}
+use Rattle.played.specs.Ended.{doneState, endIn, endOf, slotsShown, writtenState}
 use Rattle.played.specs.Played.{callsOf}
 
 module _ (l : MemoryLayout) (m r : ℕ) (f c ws ms : List ℕ) where
@@ -17,11 +17,14 @@ module _ (l : MemoryLayout) (m r : ℕ) (f c ws ms : List ℕ) where
       (first : heldBy written f c₁ ≡ after (heldBy (created .board) f c) (callsOf ws))
       (second : heldBy done f c₂ ≡ after (heldBy written f c₁) (callsOf ms)) where
     -- the state at the end of the writes, and the one behind the menu
-    at-end : heldBy written f c₁ ≡ after (newState l m r f c) (callsOf ws)
+    at-end : heldBy written f c₁ ≡ writtenState l m r f c ws
     at-end = first ∙ ap (λ (k : Created). after (heldBy (k .board) f c) (callsOf ws)) made
 
-    behind : heldBy done f c₂ ≡ after (after (newState l m r f c) (callsOf ws)) (callsOf ms)
+    behind : heldBy done f c₂ ≡ doneState l m r f c ws ms
     behind = second ∙ ap (λ (x : State). after x (callsOf ms)) at-end
+
+    pub left : c₂ ≡ doneState l m r f c ws ms .changing
+    left = ap (λ (x : State). x .changing) behind
 
     pub ends : (banks menu : List ℕ) → banks ≡ slotsShown l (written .«chr_pages») → menu ≡ slotsShown l (done .«chr_pages»)
         → _≡_ {A = Ended} (record { irq = written .irq; banks = banks; «after_menu» = menu; refusal = created .refusal }) (endOf l m r f c ws ms)

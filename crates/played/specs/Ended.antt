@@ -35,7 +35,14 @@ endIn l n x y =
 abbrev pub newState : MemoryLayout → (mirroring revision : ℕ) → (fixed changing : List ℕ) → State
 newState l m r f c = heldBy (createdBy l m r f c .board) f c
 
--- the end of a scene whose writes and menu are given as their steps' numbers
+-- board and buffers at the end of the writes, given as their steps' numbers
+abbrev pub writtenState : MemoryLayout → (mirroring revision : ℕ) → (fixed changing writes : List ℕ) → State
+writtenState l m r f c ws = after (newState l m r f c) (callsOf ws)
+
+-- board and buffers behind the menu
+abbrev pub doneState : MemoryLayout → (mirroring revision : ℕ) → (fixed changing writes menu : List ℕ) → State
+doneState l m r f c ws ms = after (writtenState l m r f c ws) (callsOf ms)
+
+-- the end of a scene
 abbrev pub endOf : MemoryLayout → (mirroring revision : ℕ) → (fixed changing writes menu : List ℕ) → Ended
-endOf l m r f c ws ms =
-    endIn l (createdBy l m r f c .refusal) (after (newState l m r f c) (callsOf ws)) (after (after (newState l m r f c) (callsOf ws)) (callsOf ms))
+endOf l m r f c ws ms = endIn l (createdBy l m r f c .refusal) (writtenState l m r f c ws) (doneState l m r f c ws ms)

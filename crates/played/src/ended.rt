@@ -6,7 +6,7 @@ use layout::Page;
 use told::create_numbered;
 use vrc_irq::VrcIrq;
 ghost use mathlib.Core.Path.{_≡_};
-ghost use Rattle.played.specs.Ended.{endOf, slotsShown};
+ghost use Rattle.played.specs.Ended.{doneState, endOf, slotsShown};
 
 // The counter and the banks at the end of the writes, the banks behind the menu, and the number if the board was refused.
 pub struct Ended {
@@ -44,6 +44,8 @@ pub fn play_scene(
     menu: &[u32],
 ) -> Ended
     ensures { λ r. ⌜ r ≡ endOf layout mirroring revision (now (fixed .entry)) (now (changing .entry)) (now (writes .entry)) (now (menu .entry)) ⌝ }
+    ensures { λ _. ⌜ now (changing .exit)
+        ≡ doneState layout mirroring revision (now (fixed .entry)) (now (changing .entry)) (now (writes .entry)) (now (menu .entry)) .changing ⌝ }
 {
     let created = create_numbered(layout, mirroring, revision, fixed, &*changing);
     let written = play(created.board, fixed, &mut *changing, writes);

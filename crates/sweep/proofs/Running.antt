@@ -168,16 +168,14 @@ module _ (s : Sweep) (menu : List ℕ) (q : VrcIrq) (from n : ℕ) where
         }
 
 -- ---- in a whole sweep
-pub from-start : (s : Sweep) (menu : List ℕ) (q : VrcIrq) (from j : ℕ) → from ≤ j
-    → verdictFrom s menu (irqAfter step line from q) from j ≡ verdictIn s menu q j
-from-start s menu q from j h =
-    ap (λ (p : VrcIrq). verdictAt s menu p j)
-    (times-add (λ (p : VrcIrq). clockAnswer p .irq) q from (j - from) ∙ ap (λ (m : ℕ). irqAfter step line m q) whole)
-  where
-    whole : from + (j - from) ≡ j
-    whole = omega arith
+-- the counter at a clock, from the counter at an earlier one
+pub on-from : (q : VrcIrq) (from j : ℕ) → from ≤ j → irqAfter step line (j - from) (irqAfter step line from q) ≡ irqAfter step line j q
+on-from q from j h =
+    let whole : from + (j - from) ≡ j = omega arith in
+    times-add (λ (p : VrcIrq). clockAnswer p .irq) q from (j - from) ∙ ap (λ (m : ℕ). irqAfter step line m q) whole
 
 -- the clocks of a run, in the sweep that starts at clock 0
 pub in-sweep : (s : Sweep) (menu : List ℕ) (q : VrcIrq) (from n : ℕ) (r : Run) → RunOf s menu (irqAfter step line from q) from n r
     → (j : ℕ) → from ≤ j → j < r .to → verdictIn s menu q j ≡ r .verdict
-in-sweep s menu q from n r run j low high = sym (from-start s menu q from j low) ∙ run .same j low high
+in-sweep s menu q from n r run j low high =
+    ap (λ (p : VrcIrq). verdictAt s menu p j) (sym (on-from q from j low)) ∙ run .same j low high

@@ -1,12 +1,11 @@
 -- A sweep, run by run. Assumes nothing.
 use mathlib.Core.Path.{_≡_, refl, ap, subst, _∙_}
 use mathlib.Core.List.{List}
-use Prim.Native.Nat.{ℕ, _+_, _-_, _≤_, _<_}
+use Prim.Native.Nat.{ℕ, _-_, _≤_, _<_}
 use native.Mathlib.Omega.{arith}
 use Rattle.steps.specs.Times.{times}
-use Rattle.steps.proofs.Iterated.{times-add}
 use Rattle.vrc_irq.specs.declared.VrcIrq.{VrcIrq}
-use Rattle.vrc_irq.specs.Board.{step, line, clockAnswer}
+use Rattle.vrc_irq.specs.Board.{step, line}
 use Rattle.vrc_irq.specs.Clocks.{irqAfter}
 use Rattle.sweep.specs.declared.runs.Run.{Run}
 use Rattle.sweep.specs.declared.runs.Sweep.{Sweep}
@@ -16,7 +15,7 @@ use Rattle.sweep.specs.Bars.{MarkedOn, Unmarked}
 use Rattle.sweep.specs.Runs.{RunOf, verdictIn}
 use Rattle.sweep.specs.Swept.{SweptOf}
 use Rattle.sweep.specs.Tallies.{TalliedNone, TalliedOn}
-use Rattle.sweep.proofs.Running.{in-sweep}
+use Rattle.sweep.proofs.Running.{in-sweep, on-from}
 
 module _ (s : Sweep) (menu : List ℕ) (q : VrcIrq) (n : ℕ) where
   -- the clocks before `from` are swept, and the counter stands there
@@ -46,17 +45,13 @@ module _ (s : Sweep) (menu : List ℕ) (q : VrcIrq) (n : ℕ) where
           counter =
               run .counter
               ∙ ap (irqAfter step line (r .to - from)) (u .counter)
-              ∙ times-add (λ (p : VrcIrq). clockAnswer p .irq) q from (r .to - from)
-              ∙ ap (λ (m : ℕ). irqAfter step line m q) whole;
+              ∙ on-from q from (r .to) (omega (arith, run .onward));
           swept =
               record {
                 tallied = a (verdictIn s menu q) (u .swept .tallied) same;
                 barred = b (λ j. verdictIn s menu q j .mark) (u .swept .barred) (λ j x y. ap (λ (v : Verdict). v .mark) (same j x y));
               };
         }
-      where
-        whole : from + (r .to - from) ≡ r .to
-        whole = omega (arith, run .onward)
 
   pub all : (from : ℕ) (now : VrcIrq) (t : Tally) (bar : List ℕ) → Upto from now t bar → n ≤ from → SweptOf s menu q n n t bar
   all from now t bar u h =

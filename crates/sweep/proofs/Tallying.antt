@@ -71,13 +71,14 @@ module _ (t : Tally) (from : ℕ) (r : Run) (go : from < r .to) (at : ℕ → Ve
   behind : {A : Type 0} (j : ℕ) → j < r .to → (j < from → A) → (at j ≡ r .verdict → A) → A
   behind j h f g = tested (leb from j) (λ l. g (same j (leb-true from j l) h)) (λ l. f (leb-false from j l))
 
+  -- a wrong clock before the run is one before its end
+  still : (w : Wrong) → WrongAt at from w → WrongAt at (r .to) w
+  still w i = record { before = omega (arith, i .before); verdict = i .verdict; wrong = i .wrong }
+
   -- ---- a run that is right
   module _ (right : isWrong (r .verdict) ≡ false) where
     no-wrong : (j : ℕ) → at j ≡ r .verdict → isWrong (at j) ≡ true → ⊥
     no-wrong j e w = false≢true (sym right ∙ ap isWrong (sym e) ∙ w)
-
-    still : (w : Wrong) → WrongAt at from w → WrongAt at (r .to) w
-    still w i = record { before = omega (arith, i .before); verdict = i .verdict; wrong = i .wrong }
 
     pub kept : Tallied at (r .to) t
     kept =
@@ -106,9 +107,6 @@ module _ (t : Tally) (from : ℕ) (r : Run) (go : from < r .to) (at : ℕ → Ve
     is-here : WrongAt at (r .to) here
     is-here = record { before = go; verdict = sym (same from (omega arith) go); wrong = wrong }
 
-    still-wrong : (w : Wrong) → WrongAt at from w → WrongAt at (r .to) w
-    still-wrong w i = record { before = omega (arith, i .before); verdict = i .verdict; wrong = i .wrong }
-
     -- the first that is wrong
     pub begun : t .count ≡ 0 → Tallied at (r .to) (record { count = n; first = here; worst = here })
     begun z =
@@ -126,7 +124,7 @@ module _ (t : Tally) (from : ℕ) (r : Run) (go : from < r .to) (at : ℕ → Ve
 
     module _ (some : 1 ≤ t .count) where
       first-still : FirstWrong at (r .to) (t .first)
-      first-still = record { is = still-wrong (t .first) (was .first some .is); right-before = was .first some .right-before }
+      first-still = record { is = still (t .first) (was .first some .is); right-before = was .first some .right-before }
 
       pub worse : badness (t .worst .verdict) < badness (r .verdict) → Tallied at (r .to) (record { count = n; first = t .first; worst = here })
       worse b =
@@ -148,7 +146,7 @@ module _ (t : Tally) (from : ℕ) (r : Run) (go : from < r .to) (at : ℕ → Ve
             first = λ h. first-still;
             worst = λ h.
                 record {
-                  is = still-wrong (t .worst) (was .worst some .is);
+                  is = still (t .worst) (was .worst some .is);
                   none-worse = λ j l w. behind j l (λ m. was .worst some .none-worse j m w) (λ e. omega (arith, ap badness e));
                   first = was .worst some .first;
                 };

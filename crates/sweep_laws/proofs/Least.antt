@@ -16,18 +16,12 @@ use Rattle.vrc_irq.specs.Laws.{Exact}
 use Rattle.vrc_irq.proofs.Forecasts.{forecast-law}
 use Rattle.vrc_irq.proofs.Board.{pace, short-forecast-law}
 use Rattle.moments.specs.Moments.{due, dueFrom}
+use Rattle.moments.proofs.Waiting.{some-due}
 use Rattle.sweep_laws.specs.Laws.{DueLaw}
 
 -- the clocks due of a counter that is enabled or not, by the formula f
 abbrev dueBy : Bool → (f : ℕ) → ℕ
 dueBy b f = dueFrom (cond b (In f) None)
-
--- an enabled one is due
-some-due : (f : ℕ) → dueBy true f ≡ 0 → ⊥
-some-due f h =
-    tested (eqb f 0)
-    (λ e. omega (arith, ap (λ (b : Bool). cond b 1 f) (sym e) ∙ h))
-    (λ e. eqb-false f 0 e (ap (λ (b : Bool). cond b 1 f) (sym e) ∙ h))
 
 module _ (q : VrcIrq) (low : q .counter ≤ 255) (on : q .enabled ≡ true) where
   -- where the formula is exact it is not 0
@@ -59,5 +53,5 @@ pub due-law : DueLaw
 due-law q low = record { least = least q low; never = never (q .enabled) }
   where
     never : (b : Bool) → (dueBy b (forecastIn step line q) ≡ 0) ↔ (b ≡ false)
-    never true = (λ h. absurd (some-due (forecastIn step line q) h), λ h. absurd (false≢true (sym h)))
+    never true = (λ h. absurd (omega (arith, some-due (forecastIn step line q), h)), λ h. absurd (false≢true (sym h)))
     never false = (λ h. refl, λ h. refl)
