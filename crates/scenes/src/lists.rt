@@ -161,9 +161,6 @@ pub(crate) fn read_words(
     };
     let mut at = span.from;
     let end = span.to;
-    if text.len() < end {
-        return words;
-    }
     let mut left = end;
     while left > 0 {
         left -= 1;

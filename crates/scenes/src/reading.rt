@@ -107,31 +107,26 @@ fn single_cell(
     let span = cell_in(text, starts, column);
     let from = span.from;
     let to = span.to;
-    if to <= text.len() {
-        if from <= to {
-            let cell = &text[from..to];
-            let at = Place {
-                row,
-                column,
-                quoted: span.quoted,
-            };
-            let word = next_word(cell, 0);
-            let begin = word.from;
-            let end = word.to;
-            if begin == end {
-                return good(none, len);
-            }
-            let more = next_word(cell, end);
-            if more.from != more.to {
-                return faulty(
-                    none,
-                    put_fault(out, len, at, cell, b" is more than one word"),
-                );
-            }
-            return word_cell(out, len, at, &cell[begin..end], none);
-        }
+    let cell = &text[from..to];
+    let at = Place {
+        row,
+        column,
+        quoted: span.quoted,
+    };
+    let word = next_word(cell, 0);
+    let begin = word.from;
+    let end = word.to;
+    if begin == end {
+        return good(none, len);
     }
-    good(none, len)
+    let more = next_word(cell, end);
+    if more.from != more.to {
+        return faulty(
+            none,
+            put_fault(out, len, at, cell, b" is more than one word"),
+        );
+    }
+    word_cell(out, len, at, &cell[begin..end], none)
 }
 
 // The cells of one word.

@@ -8,6 +8,8 @@ use cells::columns::column_of;
 use cells::lookup::cell_under;
 use cells::lookup::nth_cell;
 use output::ROOM;
+ghost use Prim.Native.Nat.{_%_};
+ghost use Rattle.cells.specs.Rows.{CellUnder};
 
 // Where the header and a row start.
 pub struct Starts {
@@ -25,7 +27,9 @@ pub struct Row {
 }
 
 // The row's cell in a column.
-pub(crate) fn cell_in(text: &[u8], starts: Starts, column: usize) -> Cell {
+pub(crate) fn cell_in(text: &[u8], starts: Starts, column: usize) -> Cell
+    ensures { λ r. ⌜ CellUnder (now (text .entry)) (starts .header) (starts .row) (column % 256) r ⌝ }
+{
     cell_under(text, starts.header, starts.row, (column % 256) as u8)
 }
 
@@ -34,12 +38,7 @@ fn column_at(text: &[u8], header: usize, k: usize) -> usize {
     let cell = nth_cell(text, header, k);
     let from = cell.from;
     let to = cell.to;
-    if to <= text.len() {
-        if from <= to {
-            return column_of(&text[from..to]) as usize;
-        }
-    }
-    9
+    column_of(&text[from..to]) as usize
 }
 
 fn put_wrong(out: &mut [u8; ROOM], len: usize, row: u32, column: usize, wrong: u8) -> usize {

@@ -38,11 +38,9 @@ fn put_name(out: &mut [u8; ROOM], len: usize, row: u32, text: &[u8], starts: Sta
     let from = span.from;
     let to = span.to;
     if from < to {
-        if to <= text.len() {
-            let b = put_text(out, a, b": ");
-            let c = put_cell(out, b, &text[from..to], span.quoted);
-            return put(out, c, b'\n');
-        }
+        let b = put_text(out, a, b": ");
+        let c = put_cell(out, b, &text[from..to], span.quoted);
+        return put(out, c, b'\n');
     }
     put(out, a, b'\n')
 }

@@ -1,19 +1,18 @@
--- `read_words` is safe and ends. Assumes nothing.
+-- `read_words` is safe and ends: its cell lies within the text. Assumes nothing.
+use Prim.Native.Nat.{_≤_}
+use lib.ListN.{length}
 use borrow.Author.Needs.{needs}
 use Rattle.scenes.proofs.lists.read_words.Statement.{statement}
 use Rattle.scenes.proofs.lists.read_words.Tie as tie
 
 abbrev Inv-loop : tie.InvT-loop
-Inv-loop text codes₀ banks₀ out₀ len row column words₀ place at₀ end left₀ codes banks out words at left = Unit {0}
+Inv-loop text codes₀ banks₀ out₀ len row column words₀ place at₀ end left₀ codes banks out words at left = end ≤ length text
 
 abbrev μ-loop : tie.MeasureT-loop
 μ-loop text codes₀ banks₀ out₀ len row column words₀ place at₀ end left₀ codes banks out words at left = left
 
 cell-in-requires : tie.Need-cell-in-requires Inv-loop μ-loop
 cell-in-requires c κs = search needs
-
-returns : tie.Need-returns Inv-loop μ-loop
-returns c = search needs
 
 loop-holds : tie.Need-loop-holds Inv-loop μ-loop
 loop-holds c = search needs
@@ -36,8 +35,8 @@ next-word-requires c κs = search needs
 put-many-requires : tie.Need-put-many-requires Inv-loop μ-loop
 put-many-requires c κs = search needs
 
-returns-2 : tie.Need-returns-2 Inv-loop μ-loop
-returns-2 c = search needs
+returns : tie.Need-returns Inv-loop μ-loop
+returns c = search needs
 
 sub-take-word : tie.Need-sub-take-word Inv-loop μ-loop
 sub-take-word c = search needs
@@ -60,8 +59,8 @@ loop-again c = search needs
 put-many-requires-2 : tie.Need-put-many-requires-2 Inv-loop μ-loop
 put-many-requires-2 c κs = search needs
 
-returns-3 : tie.Need-returns-3 Inv-loop μ-loop
-returns-3 c = search needs
+returns-2 : tie.Need-returns-2 Inv-loop μ-loop
+returns-2 c = search needs
 
 pub read-words-spec : {M : Type 1} → statement M
 read-words-spec =
@@ -70,7 +69,6 @@ read-words-spec =
     Inv-loop
     μ-loop
     cell-in-requires
-    returns
     loop-holds
     sub-left
     sub-next-word
@@ -78,7 +76,7 @@ read-words-spec =
     part-next-word-end
     next-word-requires
     put-many-requires
-    returns-2
+    returns
     sub-take-word
     part-take-word-start
     part-take-word-end
@@ -86,4 +84,4 @@ read-words-spec =
     loop-less
     loop-again
     put-many-requires-2
-    returns-3)
+    returns-2)
