@@ -3,11 +3,8 @@ use mathlib.Core.Path.{_≡_, refl, sym, ap, _∙_}
 use mathlib.Core.Bool.{Bool, true, false, cond, not, _&&_}
 use mathlib.Core.List.{List, []}
 use Prim.Native.Nat.{ℕ, suc, _+_, _≤_, _<_}
-use native.Mathlib.Omega.{arith}
-use native.Mathlib.Numerals.{add-one}
 use lib.Dec.{eqb}
-use lib.ListN.{length, drop, getD, drop-of-length-le}
-use lib.Seq.{drop-cons}
+use lib.ListN.{length, drop, getD}
 use borrow.Author.Tests.{eq-eqb, ne-eqb}
 use Rattle.vrc_irq.specs.declared.VrcIrq.{VrcIrq}
 use Rattle.vrc_irq.specs.declared.IrqForecast.{IrqForecast}
@@ -16,6 +13,7 @@ use Rattle.vrc_irq.specs.Board.{step, line, forecastAnswer}
 use Rattle.vrc_irq.specs.Clocks.{irqAfter}
 use Rattle.sheet.specs.declared.step.Step.{Step}
 use Rattle.sheet.specs.Steps.{stepCoded}
+use Rattle.sheet.proofs.Walked.{Walked, none-taken, one-taken, all-taken}
 use Rattle.moments.specs.declared.moment.Moment.{Moment}
 use Rattle.moments.specs.declared.moment.Came.{Came}
 use Rattle.moments.specs.declared.moment.Came.the-variants.{Never, On}
@@ -68,24 +66,16 @@ module _ (m : Moment) (d : ℕ) (e : d ≡ due (m .irq)) (f : m .came ≡ false)
 
 -- ---- the steps
 -- i steps are done
-pub record Done (b : Bool) (codes : List ℕ) (first now : Moment) (i : ℕ) : Type 0 where
-  pub within : i ≤ length codes
-  pub rest : played b (drop i codes) now ≡ played b codes first
+abbrev pub Done : (b : Bool) (codes : List ℕ) (first now : Moment) (i : ℕ) → Type 0
+Done b codes first now i = Walked (played b) codes first now i
 
 pub none : (b : Bool) (codes : List ℕ) (m : Moment) → Done b codes m m 0
-none b codes m = record { within = omega arith; rest = refl }
+none b codes m = none-taken (played b) codes m
 
 pub more : (b : Bool) (codes : List ℕ) (first now next : Moment) (i : ℕ) (s : Step) → Done b codes first now i → i < length codes
     → s ≡ stepCoded (getD codes i 0) → next ≡ stepped b s now → Done b codes first next (i + 1)
 more b codes first now next i s d h e t =
-    record {
-      within = omega arith;
-      rest =
-          ap (λ (k : ℕ). played b (drop k codes) next) (add-one i)
-          ∙ ap (played b (drop (suc i) codes)) (t ∙ ap (λ (x : Step). stepped b x now) e)
-          ∙ sym (ap (λ (l : List ℕ). played b l now) (drop-cons codes i 0 h))
-          ∙ d .rest;
-    }
+    one-taken (played b) codes first now i d next h (sym (ap (played b (drop (suc i) codes)) (t ∙ ap (λ (x : Step). stepped b x now) e)))
 
 pub all : (b : Bool) (codes : List ℕ) (first now : Moment) (i : ℕ) → Done b codes first now i → length codes ≤ i → now ≡ played b codes first
-all b codes first now i d h = sym (ap (λ (l : List ℕ). played b l now) (drop-of-length-le codes h)) ∙ d .rest
+all b codes first now i d h = all-taken (played b) codes first now i d (λ x. refl) h

@@ -4,13 +4,13 @@ use mathlib.Core.List.{List, [], _∷_, _++_}
 use Prim.Native.Nat.{ℕ, zero, suc, _+_, _≤_, _<_}
 use native.Mathlib.Omega.{arith}
 use native.Mathlib.Numerals.{add-one}
-use lib.ListN.{length, drop, getD, replicate, drop-of-length-le}
-use lib.Seq.{drop-cons}
+use lib.ListN.{length, drop, getD, replicate}
 use Rattle.calls.specs.declared.Call.{Call}
 use Rattle.vrc6.specs.Boards.{State}
 use Rattle.calls.specs.Lists.{next, after}
 use Rattle.sheet.specs.declared.step.Step.{Step}
 use Rattle.sheet.specs.Steps.{stepCoded}
+use Rattle.sheet.proofs.Walked.{Walked, none-taken, one-taken, all-taken}
 use Rattle.played.specs.Played.{callsOf, stepCalls}
 
 -- ---- lists of calls
@@ -57,29 +57,26 @@ pub by-kind : (code : ℕ) (s k : Step) (x then : State) → s ≡ stepCoded cod
     → then ≡ after x (stepCalls (stepCoded code))
 by-kind code s k x then e f t = t ∙ ap (λ (g : Step). after x (stepCalls g)) (sym f ∙ e)
 
+-- the state after steps, given as their numbers
+abbrev playedTo : List ℕ → State → State
+playedTo codes x = after x (callsOf codes)
+
 -- of the steps, i are played
-pub record Done (codes : List ℕ) (first now : State) (i : ℕ) : Type 0 where
-  pub within : i ≤ length codes
-  pub rest : after now (callsOf (drop i codes)) ≡ after first (callsOf codes)
+abbrev pub Done : (codes : List ℕ) (first now : State) (i : ℕ) → Type 0
+Done codes first now i = Walked playedTo codes first now i
 
 -- at the start
 pub none : (codes : List ℕ) (x : State) → Done codes x x 0
-none codes x = record { within = omega arith; rest = refl }
+none codes x = none-taken playedTo codes x
 
 -- after one more
 pub more : (codes : List ℕ) (first now then : State) (i : ℕ) → Done codes first now i → i < length codes
     → then ≡ after now (stepCalls (stepCoded (getD codes i 0))) → Done codes first then (i + 1)
 more codes first now then i d h e =
-    record {
-      within = omega arith;
-      rest =
-          ap (λ (j : ℕ). after then (callsOf (drop j codes))) (add-one i)
-          ∙ ap (λ (x : State). after x (callsOf (drop (suc i) codes))) e
-          ∙ sym (joined (stepCalls (stepCoded (getD codes i 0))) (callsOf (drop (suc i) codes)) now)
-          ∙ sym (ap (λ (l : List ℕ). after now (callsOf l)) (drop-cons codes i 0 h))
-          ∙ d .rest;
-    }
+    one-taken playedTo codes first now i d then h
+    (joined (stepCalls (stepCoded (getD codes i 0))) (callsOf (drop (suc i) codes)) now
+    ∙ sym (ap (λ (x : State). after x (callsOf (drop (suc i) codes))) e))
 
 -- at the end
 pub all : (codes : List ℕ) (first now : State) (i : ℕ) → Done codes first now i → length codes ≤ i → now ≡ after first (callsOf codes)
-all codes first now i d h = sym (ap (λ (l : List ℕ). after now (callsOf l)) (drop-of-length-le codes h)) ∙ d .rest
+all codes first now i d h = all-taken playedTo codes first now i d (λ x. refl) h

@@ -26,12 +26,12 @@ same-length c = search needs
 returns : tie.Need-returns
 returns c = (
   ends (c .before .before .before .before .before .before .before .before .before .before .before .before .before .before .before .before .before .before .before .args .layout) (c .before .before .before .before .before .before .before .before .before .before .before .before .before .before .before .before .before .before .before .args .mirroring) (c .before .before .before .before .before .before .before .before .before .before .before .before .before .before .before .before .before .before .before .args .revision) (now (c .before .before .before .before .before .before .before .before .before .before .before .before .before .before .before .before .before .before .before .args .fixed)) (now (c .before .before .before .before .before .before .before .before .before .before .before .before .before .before .before .before .before .before .before .args .changing)) (now (c .before .before .before .before .before .before .before .before .before .before .before .before .before .before .before .before .before .before .before .args .writes)) (now (c .before .before .before .before .before .before .before .before .before .before .before .before .before .before .before .before .before .before .before .args .menu))
-    (c .before .before .before .before .before .before .before .before .before .before .before .before .before .create-numbered .result) (c .before .before .before .before .before .before .before .before .before .before .before .before .before .create-numbered .ensures)
-    (c .before .before .before .before .before .before .before .before .before .before .before .play .result) (c .before .before .before .before .before .before .before .play2 .result) _ _ (c .before .before .before .before .before .before .before .before .before .before .before .play .ensures) (c .before .before .before .before .before .before .before .play2 .ensures)
-    _ _ (c .before .slots-shown .ensures) (c .slots-shown2 .ensures),
+      (c .before .before .before .before .before .before .before .before .before .before .before .before .before .create-numbered .result) (c .before .before .before .before .before .before .before .before .before .before .before .before .before .create-numbered .ensures)
+      (c .before .before .before .before .before .before .before .before .before .before .before .play .result) (c .before .before .before .before .before .before .before .play2 .result) _ _ (c .before .before .before .before .before .before .before .before .before .before .before .play .ensures) (c .before .before .before .before .before .before .before .play2 .ensures)
+      _ _ (c .before .slots-shown .ensures) (c .slots-shown2 .ensures),
   left (c .before .before .before .before .before .before .before .before .before .before .before .before .before .before .before .before .before .before .before .args .layout) (c .before .before .before .before .before .before .before .before .before .before .before .before .before .before .before .before .before .before .before .args .mirroring) (c .before .before .before .before .before .before .before .before .before .before .before .before .before .before .before .before .before .before .before .args .revision) (now (c .before .before .before .before .before .before .before .before .before .before .before .before .before .before .before .before .before .before .before .args .fixed)) (now (c .before .before .before .before .before .before .before .before .before .before .before .before .before .before .before .before .before .before .before .args .changing)) (now (c .before .before .before .before .before .before .before .before .before .before .before .before .before .before .before .before .before .before .before .args .writes)) (now (c .before .before .before .before .before .before .before .before .before .before .before .before .before .before .before .before .before .before .before .args .menu))
-    (c .before .before .before .before .before .before .before .before .before .before .before .before .before .create-numbered .result) (c .before .before .before .before .before .before .before .before .before .before .before .before .before .create-numbered .ensures)
-    (c .before .before .before .before .before .before .before .before .before .before .before .play .result) (c .before .before .before .before .before .before .before .play2 .result) _ _ (c .before .before .before .before .before .before .before .before .before .before .before .play .ensures) (c .before .before .before .before .before .before .before .play2 .ensures),
+      (c .before .before .before .before .before .before .before .before .before .before .before .before .before .create-numbered .result) (c .before .before .before .before .before .before .before .before .before .before .before .before .before .create-numbered .ensures)
+      (c .before .before .before .before .before .before .before .before .before .before .before .play .result) (c .before .before .before .before .before .before .before .play2 .result) _ _ (c .before .before .before .before .before .before .before .before .before .before .before .play .ensures) (c .before .before .before .before .before .before .before .play2 .ensures),
 )
 
 pub play-scene-spec : {M : Type 1} → statement M
