@@ -18,11 +18,7 @@ use told::page_at;
 use told::reset_board;
 use told::steady_clock;
 use vrc6::Board;
-use writing::banks_written;
-use writing::line_written;
-use writing::reached;
-use writing::sound_written;
-use writing::write_byte;
+use vrc6::writes::write_byte;
 ghost use mathlib.Core.Path.{_≡_};
 ghost use Rattle.paging.specs.Paging.{cpu, picture};
 ghost use Rattle.vrc6.specs.Boards.{heldBy};
@@ -169,26 +165,9 @@ pub extern "C" fn lent_cpu_write(
     if refusal != 0 {
         return refusal;
     } else {
-        let part = reached(board.banking.revision, addr);
-        if part == 1 {
-            let b = *board;
-            *board = banks_written(b, addr, val);
-            return 0;
-        } else {
-            if part == 2 {
-                let b = *board;
-                *board = sound_written(b, addr, val);
-                return 0;
-            } else {
-                if part == 3 {
-                    let b = *board;
-                    *board = line_written(b, addr, val);
-                    return 0;
-                } else {
-                    return 0;
-                }
-            }
-        }
+        let b = *board;
+        *board = b.write_register(addr, val);
+        return 0;
     }
 }
 

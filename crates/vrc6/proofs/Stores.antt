@@ -15,12 +15,15 @@ use Rattle.paging.specs.Paging.{cpu, picture}
 use Rattle.memory.specs.Access.{accessRefusal, plainRefusal, written}
 use Rattle.memory.proofs.Accepted.{clear}
 use Rattle.decode.specs.declared.BankRegister.{BankRegister}
+use Rattle.decode.specs.declared.Register.{Register}
+use Rattle.decode.specs.declared.Register.the-variants.{Nothing, OfBank, OfAudio, OfIrq}
+use Rattle.decode.specs.Decode.{decode}
 use Rattle.banks.specs.Banking.{bankWritten}
 use Rattle.vrc6.specs.declared.board.Board.{Board}
 use Rattle.vrc6.specs.declared.board.Written.{Written}
 use Rattle.vrc6.specs.Boards.{State, entryOf, paged}
-use Rattle.vrc6.specs.Checks.{memoryRefusal, cpuWriteRefusal}
-use Rattle.vrc6.specs.Calls.{bankTaken, storedAt, writtenAt, pictureWritten, pictureWriteLeft, pictureWrite, cpuWritten, cpuWriteLeft, cpuWrite}
+use Rattle.vrc6.specs.Checks.{memoryRefusal, registerChecks, cpuWriteRefusal}
+use Rattle.vrc6.specs.Calls.{bankTaken, registerWritten, registerTaken, takenAt, byteLeft, storedAt, pictureWritten, pictureWriteLeft, pictureWrite, cpuWritten, cpuWriteLeft, cpuWrite}
 
 -- a call that is not refused has its layout within the limits
 pub limited : (l : MemoryLayout) (e : Page) (fixed changing : ℕ) (others : Bool) → accessRefusal l e fixed changing others ≡ 0 → withinLimits l ≡ true
@@ -30,6 +33,13 @@ limited l e fixed changing others h = clear (withinLimits l) (lengthsFit l fixed
 pub taken : (r : BankRegister) (v : ℕ) (b : Board) (t : Bool) → withinLimits (b .layout) ≡ t
     → bankTaken r v b ≡ cond t (paged (b .layout) (bankWritten r v (b .banking)) (b .irq) (b .audio)) b
 taken r v b t h = ap (λ (t : Bool). cond t (paged (b .layout) (bankWritten r v (b .banking)) (b .irq) (b .audio)) b) h
+
+-- a register takes a byte: within the limits as it is written
+pub taken-within : (k : Register) (v : ℕ) (b : Board) → withinLimits (b .layout) ≡ true → registerTaken k v b ≡ registerWritten k v b
+taken-within Nothing v b h = refl
+taken-within (OfBank r) v b h = taken r v b true h
+taken-within (OfAudio r) v b h = refl
+taken-within (OfIrq r) v b h = refl
 
 abbrev answer : Board → ℕ → Written
 answer b n = record { board = b; refusal = n }
@@ -55,16 +65,24 @@ module _ (x : State) (a v : ℕ) where
         r ∙ ap (λ (z : Page). written (x .board .layout) z (x .fixed) (x .changing) a v) p ∙ left m,
       )
 
--- a CPU write, from its number n
-module _ (x : State) (a v n : ℕ) (e : n ≡ cpuWriteRefusal x a) where
-  pub cpu-refused : (n ≡ 0 → ⊥) → (answer (x .board) n ≡ cpuWrite x a v) × (x .changing ≡ cpuWriteLeft x a v .changing)
-  cpu-refused h =
-      let g = sym (unless-refused (cpuWritten x a v) x (cpuWriteRefusal x a) n e h) in
-      (ap₂ answer (ap (λ (y : State). y .board) g) e, ap (λ (y : State). y .changing) g)
+-- a CPU write, by the number n and the buffer ys that its byte left, through the entry of its address
+module _ (x : State) (a v n : ℕ) (ys : List ℕ) (page : Page) (p : page ≡ entryOf cpu (x .board) a) (e : n ≡ accessRefusal (x .board .layout) page (length (x .fixed)) (length (x .changing)) (registerChecks (x .board) a)) (left : ys ≡ byteLeft (x .board .layout) page (registerChecks (x .board) a) (x .fixed) (x .changing) a v) where
+  number : n ≡ cpuWriteRefusal x a
+  number = e ∙ ap (λ (z : Page). accessRefusal (x .board .layout) z (length (x .fixed)) (length (x .changing)) (registerChecks (x .board) a)) p
 
-  -- b is the board after the register, ys the buffer after the byte
-  pub cpu-done : n ≡ 0 → (b : Board) (ys : List ℕ) → b ≡ writtenAt (x .board) a v → ys ≡ storedAt cpu x a v
-      → (answer b n ≡ cpuWrite x a v) × (ys ≡ cpuWriteLeft x a v .changing)
-  cpu-done h b ys p q =
-      let g = sym (unless-done (cpuWritten x a v) x (cpuWriteRefusal x a) n e h) in
-      (ap₂ answer (p ∙ ap (λ (y : State). y .board) g) e, q ∙ ap (λ (y : State). y .changing) g)
+  stored-left : ys ≡ unless (cpuWriteRefusal x a) (storedAt cpu x a v) (x .changing)
+  stored-left = left ∙ ap (λ (z : Page). byteLeft (x .board .layout) z (registerChecks (x .board) a) (x .fixed) (x .changing) a v) p
+
+  pub cpu-refused : (n ≡ 0 → ⊥) → (answer (x .board) n ≡ cpuWrite x a v) × (ys ≡ cpuWriteLeft x a v .changing)
+  cpu-refused h =
+      let g = sym (unless-refused (cpuWritten x a v) x (cpuWriteRefusal x a) n number h) in
+      (ap₂ answer (ap (λ (y : State). y .board) g) number, stored-left ∙ unless-refused (storedAt cpu x a v) (x .changing) (cpuWriteRefusal x a) n number h ∙ ap (λ (y : State). y .changing) g)
+
+  -- b is the board after the register
+  pub cpu-done : n ≡ 0 → (b : Board) → b ≡ takenAt (x .board) a v → (answer b n ≡ cpuWrite x a v) × (ys ≡ cpuWriteLeft x a v .changing)
+  cpu-done h b made =
+      let g = sym (unless-done (cpuWritten x a v) x (cpuWriteRefusal x a) n number h) in
+      let within = limited (x .board .layout) page (length (x .fixed)) (length (x .changing)) (registerChecks (x .board) a) (sym e ∙ h) in (
+        ap₂ answer (made ∙ taken-within (decode (x .board .banking .revision) a) v (x .board) within ∙ ap (λ (y : State). y .board) g) number,
+        stored-left ∙ unless-done (storedAt cpu x a v) (x .changing) (cpuWriteRefusal x a) n number h ∙ ap (λ (y : State). y .changing) g,
+      )

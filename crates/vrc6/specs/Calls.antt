@@ -4,9 +4,11 @@ use mathlib.Core.List.{List}
 use Prim.Native.Nat.{ℕ}
 use lib.ListN.{length}
 use Rattle.basics.specs.Refusals.{unless}
+use Rattle.layout.specs.declared.page.Page.{Page}
+use Rattle.layout.specs.declared.regions.MemoryLayout.{MemoryLayout}
 use Rattle.layout.specs.Layout.{withinLimits}
 use Rattle.paging.specs.Paging.{Side, cpu, picture}
-use Rattle.memory.specs.Access.{peeked, stored, written, viewed}
+use Rattle.memory.specs.Access.{accessRefusal, peeked, stored, written, viewed}
 use Rattle.decode.specs.declared.BankRegister.{BankRegister}
 use Rattle.decode.specs.declared.Register.{Register}
 use Rattle.decode.specs.declared.Register.the-variants.{Nothing, OfBank, OfAudio, OfIrq}
@@ -55,6 +57,16 @@ registerWritten (OfBank r) v b = paged (b .layout) (bankWritten r v (b .banking)
 registerWritten (OfAudio r) v b = withEngine b (b .irq) (audioWritten r v (b .audio))
 registerWritten (OfIrq r) v b = withEngine b (irqWritten r v (b .irq)) (b .audio)
 
+-- the same whatever the layout: above the limits a bank register leaves the board as it was
+abbrev pub registerTaken : Register → (v : ℕ) → Board → Board
+registerTaken Nothing v b = registerWritten Nothing v b
+registerTaken (OfBank r) v b = bankTaken r v b
+registerTaken (OfAudio r) v b = registerWritten (OfAudio r) v b
+registerTaken (OfIrq r) v b = registerWritten (OfIrq r) v b
+
+abbrev pub takenAt : Board → (address byte : ℕ) → Board
+takenAt b address byte = registerTaken (decode (b .banking .revision) address) byte b
+
 -- the register at an address takes a byte
 abbrev pub writtenAt : Board → (address byte : ℕ) → Board
 writtenAt b address byte = registerWritten (decode (b .banking .revision) address) byte b
@@ -62,6 +74,11 @@ writtenAt b address byte = registerWritten (decode (b .banking .revision) addres
 -- a byte goes through the entry of its address, as the entries are (01, Paging)
 abbrev pub storedAt : Side → State → (address byte : ℕ) → List ℕ
 storedAt s x address byte = stored (length (x .fixed)) (entryOf s (x .board) address) (x .changing) address byte
+
+-- the changing buffer after a CPU write's byte, by the parts of a board that are checked
+abbrev pub byteLeft : MemoryLayout → Page → (others : Bool) → (fixed changing : List ℕ) → (address byte : ℕ) → List ℕ
+byteLeft l e others fixed changing address byte =
+    unless (accessRefusal l e (length fixed) (length changing) others) (stored (length fixed) e changing address byte) changing
 
 -- a CPU write that is not refused: byte, then register
 abbrev pub cpuWritten : State → (address byte : ℕ) → State

@@ -9,6 +9,9 @@ use Rattle.layout.specs.declared.regions.MemoryLayout.{MemoryLayout}
 use Rattle.layout.specs.Layout.{layoutChecks}
 use Rattle.paging.specs.Paging.{Side, cpu}
 use Rattle.memory.specs.Access.{accessRefusal}
+use Rattle.vrc_irq.specs.declared.VrcIrq.{VrcIrq}
+use Rattle.audio.specs.declared.Audio.{Audio}
+use Rattle.banks.specs.declared.banking.Banking.{Banking}
 use Rattle.banks.specs.Banking.{bankingInRange}
 use Rattle.engine.specs.Engine.{engineOk, engineNumber}
 use Rattle.vrc6.specs.declared.board.Board.{Board}
@@ -42,8 +45,11 @@ memoryRefusal s x address others =
     accessRefusal (x .board .layout) (entryOf s (x .board) address) (length (x .fixed)) (length (x .changing)) others
 
 -- a CPU write from $8000 up also checks all banking, interrupt and sound values
+abbrev pub valuesInRange : Banking → VrcIrq → Audio → (address : ℕ) → Bool
+valuesInRange k q a address = ltb address 0x8000 || (bankingInRange k && engineOk q a)
+
 abbrev pub registerChecks : Board → (address : ℕ) → Bool
-registerChecks b address = ltb address 0x8000 || (bankingInRange (b .banking) && engineInRange b)
+registerChecks b address = valuesInRange (b .banking) (b .irq) (b .audio) address
 
 -- a CPU write
 abbrev pub cpuWriteRefusal : State → (address : ℕ) → ℕ

@@ -1,27 +1,66 @@
 // The calls that store a byte: CPU write, which then reaches a register, and picture write.
 use crate::board::Board;
 use crate::board::Written;
+use audio::Audio;
+use banks::banking::Banking;
 use decode::BankRegister;
 use decode::Register;
 use decode::decode;
 use engine::engine_in_range;
 use engine::writes::write_irq;
+use layout::MemoryLayout;
+use layout::Page;
 use memory::access_refusal;
 use memory::store;
 use memory::write;
 use tables::chr_pages;
 use tables::prg_pages;
+use vrc_irq::VrcIrq;
 ghost use mathlib.Core.Path.{_≡_};
-ghost use mathlib.Core.Bool.{true};
-ghost use Rattle.layout.specs.Layout.{withinLimits};
+ghost use lib.ListN.{length};
+ghost use Rattle.memory.specs.Access.{accessRefusal};
 ghost use Rattle.vrc6.specs.Boards.{heldBy};
-ghost use Rattle.vrc6.specs.Checks.{registerChecks};
-ghost use Rattle.vrc6.specs.Calls.{bankTaken, cpuWrite, cpuWriteLeft, pictureWrite, pictureWriteLeft, writtenAt};
+ghost use Rattle.vrc6.specs.Checks.{valuesInRange};
+ghost use Rattle.vrc6.specs.Calls.{bankTaken, byteLeft, cpuWrite, cpuWriteLeft, pictureWrite, pictureWriteLeft, takenAt};
+
+// Whether what a CPU write checks beside its entry is in range: from $8000 up all banking, interrupt and sound values.
+fn values_in_range(banking: Banking, irq: VrcIrq, audio: Audio, addr: u16) -> bool
+    ensures { λ r. ⌜ r ≡ valuesInRange banking irq audio addr ⌝ }
+{
+    if addr < 0x8000 {
+        return true;
+    }
+    banking.in_range() & engine_in_range(irq, audio)
+}
+
+// A CPU write's byte, if nothing is refused, by the parts of a board that it checks; the refusal's number.
+pub fn write_byte(
+    layout: MemoryLayout,
+    page: Page,
+    banking: Banking,
+    irq: VrcIrq,
+    audio: Audio,
+    fixed: &[u8],
+    changing: &mut [u8],
+    addr: u16,
+    val: u8,
+) -> u8
+    ensures { λ r. ⌜ (r ≡ accessRefusal layout page (length (now (fixed .entry))) (length (now (changing .entry))) (valuesInRange banking irq audio addr))
+        × (now (changing .exit) ≡ byteLeft layout page (valuesInRange banking irq audio addr) (now (fixed .entry)) (now (changing .entry)) addr val) ⌝ }
+{
+    let others = values_in_range(banking, irq, audio, addr);
+    let refusal = access_refusal(layout, page, fixed.len(), changing.len(), others);
+    if refusal != 0 {
+        return refusal;
+    }
+    store(page, fixed.len(), changing, addr, val);
+    refusal
+}
 
 impl Board {
     // A bank register takes a byte, and every entry is rebuilt from the banking values. A layout above the limits has no
     // entries: the board stays.
-    pub fn write_bank(self, register: BankRegister, val: u8) -> Board
+    fn write_bank(self, register: BankRegister, val: u8) -> Board
         ensures { λ r. ⌜ r ≡ bankTaken register val self ⌝ }
     {
         let layout = self.layout;
@@ -39,9 +78,8 @@ impl Board {
     }
 
     // The register that a CPU write reaches takes its byte.
-    fn write_register(mut self, addr: u16, val: u8) -> Board
-        requires { ⌜ withinLimits (self .layout) ≡ true ⌝ }
-        ensures { λ r. ⌜ r ≡ writtenAt self addr val ⌝ }
+    pub fn write_register(mut self, addr: u16, val: u8) -> Board
+        ensures { λ r. ⌜ r ≡ takenAt self addr val ⌝ }
     {
         let banking = self.banking;
         match decode(banking.revision, addr) {
@@ -58,31 +96,29 @@ impl Board {
         }
     }
 
-    // Whether what a CPU write checks beside its entry is in range: from $8000 up all banking, interrupt and sound values.
-    fn register_checks(self, addr: u16) -> bool
-        ensures { λ r. ⌜ r ≡ registerChecks self addr ⌝ }
-    {
-        if addr < 0x8000 {
-            return true;
-        }
-        self.banking.in_range() & engine_in_range(self.irq, self.audio)
-    }
-
     // The byte through the entries as they were, then the register.
     pub fn cpu_write(self, fixed: &[u8], changing: &mut [u8], addr: u16, val: u8) -> Written
         ensures { λ r. ⌜ (r ≡ cpuWrite (heldBy self (now (fixed .entry)) (now (changing .entry))) addr val)
             × (now (changing .exit) ≡ cpuWriteLeft (heldBy self (now (fixed .entry)) (now (changing .entry))) addr val .changing) ⌝ }
     {
         let page = self.cpu_page(addr);
-        let others = self.register_checks(addr);
-        let refusal = access_refusal(self.layout, page, fixed.len(), changing.len(), others);
+        let refusal = write_byte(
+            self.layout,
+            page,
+            self.banking,
+            self.irq,
+            self.audio,
+            fixed,
+            changing,
+            addr,
+            val,
+        );
         if refusal != 0 {
             return Written {
                 board: self,
                 refusal,
             };
         }
-        store(page, fixed.len(), changing, addr, val);
         let board = self.write_register(addr, val);
         Written { board, refusal }
     }

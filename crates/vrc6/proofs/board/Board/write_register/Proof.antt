@@ -1,9 +1,7 @@
 -- `Board::write_register` meets its contract. Assumes nothing.
 use mathlib.Core.Path.{_≡_, sym, ap, ap₂, _∙_}
-use mathlib.Core.Bool.{true}
 use Rattle.decode.specs.declared.Register.{Register}
-use Rattle.vrc6.specs.Calls.{registerWritten}
-use Rattle.vrc6.proofs.Stores.{taken}
+use Rattle.vrc6.specs.Calls.{registerTaken}
 use borrow.Author.Needs.{needs}
 use Rattle.vrc6.proofs.board.Board.write_register.Statement.{statement}
 use Rattle.vrc6.proofs.board.Board.write_register.Tie as tie
@@ -33,16 +31,16 @@ write-irq-requires : tie.Need-write-irq-requires
 write-irq-requires c κs = search needs
 
 returns : tie.Need-returns
-returns c = let a = c .before .before .before .before .args in ap (λ (r : Register). registerWritten r (a .val) (a .self)) (sym (c .enum-told .given .1) ∙ c .before .before .decode .ensures)
+returns c = let a = c .before .before .before .before .args in ap (λ (r : Register). registerTaken r (a .val) (a .self)) (sym (c .enum-told .given .1) ∙ c .before .before .decode .ensures)
 
 returns-2 : tie.Need-returns-2
-returns-2 c = let a = c .before .before .before .before .before .before .args in c .write-bank .ensures ∙ taken (c .before .before .register .given .0 .0) (a .val) (a .self) true (c .before .before .before .before .before .before .pre) ∙ ap (λ (r : Register). registerWritten r (a .val) (a .self)) (sym (c .before .before .register .given .1) ∙ c .before .before .before .before .decode .ensures)
+returns-2 c = let a = c .before .before .before .before .before .before .args in c .write-bank .ensures ∙ ap (λ (r : Register). registerTaken r (a .val) (a .self)) (sym (c .before .before .register .given .1) ∙ c .before .before .before .before .decode .ensures)
 
 returns-3 : tie.Need-returns-3
-returns-3 c = let a = c .before .before .before .before .before .before .args in rw (c .write-register .ensures) (ap (λ (r : Register). registerWritten r (a .val) (a .self)) (sym (c .before .before .register2 .given .1) ∙ c .before .before .before .before .decode .ensures))
+returns-3 c = let a = c .before .before .before .before .before .before .args in rw (c .write-register .ensures) (ap (λ (r : Register). registerTaken r (a .val) (a .self)) (sym (c .before .before .register2 .given .1) ∙ c .before .before .before .before .decode .ensures))
 
 returns-4 : tie.Need-returns-4
-returns-4 c = let a = c .before .before .before .before .before .before .args in rw (c .write-irq .ensures) (ap (λ (r : Register). registerWritten r (a .val) (a .self)) (sym (c .before .before .register3 .given .1) ∙ c .before .before .before .before .decode .ensures))
+returns-4 c = let a = c .before .before .before .before .before .before .args in rw (c .write-irq .ensures) (ap (λ (r : Register). registerTaken r (a .val) (a .self)) (sym (c .before .before .register3 .given .1) ∙ c .before .before .before .before .decode .ensures))
 
 pub write-register-spec : {M : Type 1} → statement M
 write-register-spec =
