@@ -18,6 +18,7 @@ use told::page_at;
 use told::reset_board;
 use told::steady_clock;
 use vrc6::Board;
+use vrc6::writes::reaches_bank;
 use vrc6::writes::write_byte;
 ghost use mathlib.Core.Path.{_≡_};
 ghost use Rattle.paging.specs.Paging.{cpu, picture};
@@ -165,9 +166,20 @@ pub extern "C" fn lent_cpu_write(
     if refusal != 0 {
         return refusal;
     } else {
-        let b = *board;
-        *board = b.write_register(addr, val);
-        return 0;
+        if addr < 0x8000 {
+            return 0;
+        } else {
+            let banks = reaches_bank(board.banking.revision, addr);
+            if banks {
+                let b = *board;
+                *board = b.write_banks(addr, val);
+                return 0;
+            } else {
+                let b = *board;
+                *board = b.write_engine(addr, val);
+                return 0;
+            }
+        }
     }
 }
 

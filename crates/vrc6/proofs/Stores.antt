@@ -23,7 +23,7 @@ use Rattle.vrc6.specs.declared.board.Board.{Board}
 use Rattle.vrc6.specs.declared.board.Written.{Written}
 use Rattle.vrc6.specs.Boards.{State, entryOf, paged}
 use Rattle.vrc6.specs.Checks.{memoryRefusal, registerChecks, cpuWriteRefusal}
-use Rattle.vrc6.specs.Calls.{bankTaken, registerWritten, registerTaken, takenAt, byteLeft, storedAt, pictureWritten, pictureWriteLeft, pictureWrite, cpuWritten, cpuWriteLeft, cpuWrite}
+use Rattle.vrc6.specs.Calls.{bankTaken, registerWritten, registerTaken, ofBank, banksTaken, engineTaken, takenAt, byteLeft, storedAt, pictureWritten, pictureWriteLeft, pictureWrite, cpuWritten, cpuWriteLeft, cpuWrite}
 
 -- a call that is not refused has its layout within the limits
 pub limited : (l : MemoryLayout) (e : Page) (fixed changing : ℕ) (others : Bool) → accessRefusal l e fixed changing others ≡ 0 → withinLimits l ≡ true
@@ -40,6 +40,14 @@ taken-within Nothing v b h = refl
 taken-within (OfBank r) v b h = taken r v b true h
 taken-within (OfAudio r) v b h = refl
 taken-within (OfIrq r) v b h = refl
+
+-- by its half
+module _ (k : Register) (v : ℕ) (b : Board) where
+  pub by-banks : ofBank k ≡ true → banksTaken k v b ≡ registerTaken k v b
+  by-banks h = sym (ap (λ (t : Bool). cond t (banksTaken k v b) (engineTaken k v b)) h)
+
+  pub by-engine : ofBank k ≡ false → engineTaken k v b ≡ registerTaken k v b
+  by-engine h = sym (ap (λ (t : Bool). cond t (banksTaken k v b) (engineTaken k v b)) h)
 
 abbrev answer : Board → ℕ → Written
 answer b n = record { board = b; refusal = n }

@@ -18,7 +18,7 @@ use Rattle.vrc_irq.specs.Interrupt.{irqZero}
 use Rattle.vrc_irq.specs.Board.{clockAnswer}
 use Rattle.audio.specs.Sound.{audioWritten, audioClocked, audioReset}
 use Rattle.engine.specs.Engine.{engineLevel, engineForecast}
-use Rattle.engine.specs.Writes.{irqWritten}
+use Rattle.engine.specs.Writes.{irqWritten, irqAfter, audioAfter}
 use Rattle.vrc6.specs.declared.board.Board.{Board}
 use Rattle.vrc6.specs.declared.board.Created.{Created}
 use Rattle.vrc6.specs.declared.board.ByteRead.{ByteRead}
@@ -57,12 +57,25 @@ registerWritten (OfBank r) v b = paged (b .layout) (bankWritten r v (b .banking)
 registerWritten (OfAudio r) v b = withEngine b (b .irq) (audioWritten r v (b .audio))
 registerWritten (OfIrq r) v b = withEngine b (irqWritten r v (b .irq)) (b .audio)
 
--- the same whatever the layout: above the limits a bank register leaves the board as it was
+-- the same by its two halves, whatever the layout: a bank register, which above the limits leaves the board as it was
+abbrev pub banksTaken : Register → (v : ℕ) → Board → Board
+banksTaken Nothing v b = b
+banksTaken (OfBank r) v b = bankTaken r v b
+banksTaken (OfAudio _) v b = b
+banksTaken (OfIrq _) v b = b
+
+-- a register of the interrupt or of the sound
+abbrev pub engineTaken : Register → (v : ℕ) → Board → Board
+engineTaken r v b = withEngine b (irqAfter r v (b .irq)) (audioAfter r v (b .audio))
+
+abbrev pub ofBank : Register → Bool
+ofBank Nothing = false
+ofBank (OfBank _) = true
+ofBank (OfAudio _) = false
+ofBank (OfIrq _) = false
+
 abbrev pub registerTaken : Register → (v : ℕ) → Board → Board
-registerTaken Nothing v b = registerWritten Nothing v b
-registerTaken (OfBank r) v b = bankTaken r v b
-registerTaken (OfAudio r) v b = registerWritten (OfAudio r) v b
-registerTaken (OfIrq r) v b = registerWritten (OfIrq r) v b
+registerTaken r v b = cond (ofBank r) (banksTaken r v b) (engineTaken r v b)
 
 abbrev pub takenAt : Board → (address byte : ℕ) → Board
 takenAt b address byte = registerTaken (decode (b .banking .revision) address) byte b

@@ -7,7 +7,8 @@ use decode::BankRegister;
 use decode::Register;
 use decode::decode;
 use engine::engine_in_range;
-use engine::writes::write_irq;
+use engine::writes::audio_written;
+use engine::writes::irq_written;
 use layout::MemoryLayout;
 use layout::Page;
 use memory::access_refusal;
@@ -19,9 +20,10 @@ use vrc_irq::VrcIrq;
 ghost use mathlib.Core.Path.{_≡_};
 ghost use lib.ListN.{length};
 ghost use Rattle.memory.specs.Access.{accessRefusal};
+ghost use Rattle.decode.specs.Decode.{decode};
 ghost use Rattle.vrc6.specs.Boards.{heldBy};
 ghost use Rattle.vrc6.specs.Checks.{valuesInRange};
-ghost use Rattle.vrc6.specs.Calls.{bankTaken, byteLeft, cpuWrite, cpuWriteLeft, pictureWrite, pictureWriteLeft, takenAt};
+ghost use Rattle.vrc6.specs.Calls.{bankTaken, banksTaken, byteLeft, cpuWrite, cpuWriteLeft, engineTaken, ofBank, pictureWrite, pictureWriteLeft, takenAt};
 
 // Whether what a CPU write checks beside its entry is in range: from $8000 up all banking, interrupt and sound values.
 fn values_in_range(banking: Banking, irq: VrcIrq, audio: Audio, addr: u16) -> bool
@@ -57,6 +59,18 @@ pub fn write_byte(
     refusal
 }
 
+// Whether a CPU write reaches a bank register.
+pub fn reaches_bank(revision: bool, addr: u16) -> bool
+    ensures { λ r. ⌜ r ≡ ofBank (decode revision addr) ⌝ }
+{
+    match decode(revision, addr) {
+        Register::Nothing => false,
+        Register::OfBank(bank) => true,
+        Register::OfAudio(sound) => false,
+        Register::OfIrq(line) => false,
+    }
+}
+
 impl Board {
     // A bank register takes a byte, and every entry is rebuilt from the banking values. A layout above the limits has no
     // entries: the board stays.
@@ -77,23 +91,42 @@ impl Board {
         self
     }
 
-    // The register that a CPU write reaches takes its byte.
-    pub fn write_register(mut self, addr: u16, val: u8) -> Board
-        ensures { λ r. ⌜ r ≡ takenAt self addr val ⌝ }
+    // Interrupt and sound take the byte of a CPU write that reaches one of their registers.
+    pub fn write_engine(self, addr: u16, val: u8) -> Board
+        ensures { λ r. ⌜ r ≡ engineTaken (decode (self .banking .revision) addr) val self ⌝ }
+    {
+        let banking = self.banking;
+        let irq = irq_written(banking.revision, self.irq, addr, val);
+        let audio = audio_written(banking.revision, self.audio, addr, val);
+        let mut board = self;
+        board.irq = irq;
+        board.audio = audio;
+        board
+    }
+
+    // A bank register takes the byte of a CPU write that reaches one.
+    pub fn write_banks(self, addr: u16, val: u8) -> Board
+        ensures { λ r. ⌜ r ≡ banksTaken (decode (self .banking .revision) addr) val self ⌝ }
     {
         let banking = self.banking;
         match decode(banking.revision, addr) {
             Register::Nothing => self,
-            Register::OfBank(register) => self.write_bank(register, val),
-            Register::OfAudio(register) => {
-                self.audio = self.audio.write_register(register, val);
-                self
-            }
-            Register::OfIrq(register) => {
-                self.irq = write_irq(self.irq, register, val);
-                self
-            }
+            Register::OfBank(bank) => self.write_bank(bank, val),
+            Register::OfAudio(sound) => self,
+            Register::OfIrq(line) => self,
         }
+    }
+
+    // The register that a CPU write reaches takes its byte.
+    fn write_register(self, addr: u16, val: u8) -> Board
+        ensures { λ r. ⌜ r ≡ takenAt self addr val ⌝ }
+    {
+        let banking = self.banking;
+        let banks = reaches_bank(banking.revision, addr);
+        if banks {
+            return self.write_banks(addr, val);
+        }
+        self.write_engine(addr, val)
     }
 
     // The byte through the entries as they were, then the register.
