@@ -18,7 +18,7 @@ use told::page_at;
 use told::reset_board;
 use told::steady_clock;
 use vrc6::Board;
-use vrc6::writes::reaches_bank;
+use vrc6::writes::reached;
 use vrc6::writes::write_byte;
 ghost use mathlib.Core.Path.{_≡_};
 ghost use Rattle.paging.specs.Paging.{cpu, picture};
@@ -166,18 +166,24 @@ pub extern "C" fn lent_cpu_write(
     if refusal != 0 {
         return refusal;
     } else {
-        if addr < 0x8000 {
+        let part = reached(board.banking.revision, addr);
+        if part == 1 {
+            let b = *board;
+            *board = b.write_banks(addr, val);
             return 0;
         } else {
-            let banks = reaches_bank(board.banking.revision, addr);
-            if banks {
+            if part == 2 {
                 let b = *board;
-                *board = b.write_banks(addr, val);
+                *board = b.write_sound(addr, val);
                 return 0;
             } else {
-                let b = *board;
-                *board = b.write_engine(addr, val);
-                return 0;
+                if part == 3 {
+                    let b = *board;
+                    *board = b.write_line(addr, val);
+                    return 0;
+                } else {
+                    return 0;
+                }
             }
         }
     }

@@ -1,9 +1,10 @@
 -- The answers of the writes, from their refusal number. Assumes nothing.
-use mathlib.Core.Path.{_≡_, refl, sym, ap, ap₂, _∙_}
-use mathlib.Core.Bool.{Bool, true, false, cond, _&&_}
+use mathlib.Core.Path.{_≡_, refl, sym, ap, ap₂, subst, _∙_}
+use mathlib.Core.Bool.{Bool, true, false, cond, not, _&&_}
 use mathlib.Core.List.{List}
 use Prim.Native.Nat.{ℕ, zero, suc}
 use native.Mathlib.Omega.{arith}
+use lib.Dec.{T, eqb}
 use lib.ListN.{length}
 use Rattle.basics.specs.Refusals.{unless}
 use Rattle.basics.proofs.Tests.{unless-refused, unless-done}
@@ -23,7 +24,7 @@ use Rattle.vrc6.specs.declared.board.Board.{Board}
 use Rattle.vrc6.specs.declared.board.Written.{Written}
 use Rattle.vrc6.specs.Boards.{State, entryOf, paged}
 use Rattle.vrc6.specs.Checks.{memoryRefusal, registerChecks, cpuWriteRefusal}
-use Rattle.vrc6.specs.Calls.{bankTaken, registerWritten, registerTaken, ofBank, banksTaken, engineTaken, takenAt, byteLeft, storedAt, pictureWritten, pictureWriteLeft, pictureWrite, cpuWritten, cpuWriteLeft, cpuWrite}
+use Rattle.vrc6.specs.Calls.{bankTaken, registerWritten, registerTaken, banksTaken, soundTaken, lineTaken, partOf, takenAt, byteLeft, storedAt, pictureWritten, pictureWriteLeft, pictureWrite, cpuWritten, cpuWriteLeft, cpuWrite}
 
 -- a call that is not refused has its layout within the limits
 pub limited : (l : MemoryLayout) (e : Page) (fixed changing : ℕ) (others : Bool) → accessRefusal l e fixed changing others ≡ 0 → withinLimits l ≡ true
@@ -41,13 +42,31 @@ taken-within (OfBank r) v b h = taken r v b true h
 taken-within (OfAudio r) v b h = refl
 taken-within (OfIrq r) v b h = refl
 
--- by its half
-module _ (k : Register) (v : ℕ) (b : Board) where
-  pub by-banks : ofBank k ≡ true → banksTaken k v b ≡ registerTaken k v b
-  by-banks h = sym (ap (λ (t : Bool). cond t (banksTaken k v b) (engineTaken k v b)) h)
+-- by its part
+module _ (p v : ℕ) (b : Board) where
+  pub of-banks : (d : Register) → p ≡ partOf d → T (eqb p 1) → banksTaken d v b ≡ registerTaken d v b
+  of-banks Nothing e t = absurd (subst (λ (z : ℕ). T (eqb z 1)) e t)
+  of-banks (OfBank r) e t = refl
+  of-banks (OfAudio r) e t = absurd (subst (λ (z : ℕ). T (eqb z 1)) e t)
+  of-banks (OfIrq r) e t = absurd (subst (λ (z : ℕ). T (eqb z 1)) e t)
 
-  pub by-engine : ofBank k ≡ false → engineTaken k v b ≡ registerTaken k v b
-  by-engine h = sym (ap (λ (t : Bool). cond t (banksTaken k v b) (engineTaken k v b)) h)
+  pub of-audio : (d : Register) → p ≡ partOf d → T (eqb p 2) → soundTaken d v b ≡ registerTaken d v b
+  of-audio Nothing e t = absurd (subst (λ (z : ℕ). T (eqb z 2)) e t)
+  of-audio (OfBank r) e t = absurd (subst (λ (z : ℕ). T (eqb z 2)) e t)
+  of-audio (OfAudio r) e t = refl
+  of-audio (OfIrq r) e t = absurd (subst (λ (z : ℕ). T (eqb z 2)) e t)
+
+  pub of-irq : (d : Register) → p ≡ partOf d → T (eqb p 3) → lineTaken d v b ≡ registerTaken d v b
+  of-irq Nothing e t = absurd (subst (λ (z : ℕ). T (eqb z 3)) e t)
+  of-irq (OfBank r) e t = absurd (subst (λ (z : ℕ). T (eqb z 3)) e t)
+  of-irq (OfAudio r) e t = absurd (subst (λ (z : ℕ). T (eqb z 3)) e t)
+  of-irq (OfIrq r) e t = refl
+
+  pub of-none : (d : Register) → p ≡ partOf d → T (not (eqb p 1)) → T (not (eqb p 2)) → T (not (eqb p 3)) → b ≡ registerTaken d v b
+  of-none Nothing e t u w = refl
+  of-none (OfBank r) e t u w = absurd (subst (λ (z : ℕ). T (not (eqb z 1))) e t)
+  of-none (OfAudio r) e t u w = absurd (subst (λ (z : ℕ). T (not (eqb z 2))) e u)
+  of-none (OfIrq r) e t u w = absurd (subst (λ (z : ℕ). T (not (eqb z 3))) e w)
 
 abbrev answer : Board → ℕ → Written
 answer b n = record { board = b; refusal = n }

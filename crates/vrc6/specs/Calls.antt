@@ -57,25 +57,32 @@ registerWritten (OfBank r) v b = paged (b .layout) (bankWritten r v (b .banking)
 registerWritten (OfAudio r) v b = withEngine b (b .irq) (audioWritten r v (b .audio))
 registerWritten (OfIrq r) v b = withEngine b (irqWritten r v (b .irq)) (b .audio)
 
--- the same by its two halves, whatever the layout: a bank register, which above the limits leaves the board as it was
+-- the same by its parts, whatever the layout: a bank register, which above the limits leaves the board as it was
 abbrev pub banksTaken : Register → (v : ℕ) → Board → Board
 banksTaken Nothing v b = b
 banksTaken (OfBank r) v b = bankTaken r v b
 banksTaken (OfAudio _) v b = b
 banksTaken (OfIrq _) v b = b
 
--- a register of the interrupt or of the sound
-abbrev pub engineTaken : Register → (v : ℕ) → Board → Board
-engineTaken r v b = withEngine b (irqAfter r v (b .irq)) (audioAfter r v (b .audio))
+-- a register of the sound, and one of the interrupt
+abbrev pub soundTaken : Register → (v : ℕ) → Board → Board
+soundTaken r v b = withEngine b (b .irq) (audioAfter r v (b .audio))
 
-abbrev pub ofBank : Register → Bool
-ofBank Nothing = false
-ofBank (OfBank _) = true
-ofBank (OfAudio _) = false
-ofBank (OfIrq _) = false
+abbrev pub lineTaken : Register → (v : ℕ) → Board → Board
+lineTaken r v b = withEngine b (irqAfter r v (b .irq)) (b .audio)
+
+-- the part of the board that a register belongs to, as a number
+abbrev pub partOf : Register → ℕ
+partOf Nothing = 0
+partOf (OfBank _) = 1
+partOf (OfAudio _) = 2
+partOf (OfIrq _) = 3
 
 abbrev pub registerTaken : Register → (v : ℕ) → Board → Board
-registerTaken r v b = cond (ofBank r) (banksTaken r v b) (engineTaken r v b)
+registerTaken Nothing v b = b
+registerTaken (OfBank r) v b = bankTaken r v b
+registerTaken (OfAudio r) v b = registerWritten (OfAudio r) v b
+registerTaken (OfIrq r) v b = registerWritten (OfIrq r) v b
 
 abbrev pub takenAt : Board → (address byte : ℕ) → Board
 takenAt b address byte = registerTaken (decode (b .banking .revision) address) byte b

@@ -23,7 +23,7 @@ ghost use Rattle.memory.specs.Access.{accessRefusal};
 ghost use Rattle.decode.specs.Decode.{decode};
 ghost use Rattle.vrc6.specs.Boards.{heldBy};
 ghost use Rattle.vrc6.specs.Checks.{valuesInRange};
-ghost use Rattle.vrc6.specs.Calls.{bankTaken, banksTaken, byteLeft, cpuWrite, cpuWriteLeft, engineTaken, ofBank, pictureWrite, pictureWriteLeft, takenAt};
+ghost use Rattle.vrc6.specs.Calls.{bankTaken, banksTaken, byteLeft, cpuWrite, cpuWriteLeft, lineTaken, partOf, pictureWrite, pictureWriteLeft, soundTaken, takenAt};
 
 // Whether what a CPU write checks beside its entry is in range: from $8000 up all banking, interrupt and sound values.
 fn values_in_range(banking: Banking, irq: VrcIrq, audio: Audio, addr: u16) -> bool
@@ -59,16 +59,19 @@ pub fn write_byte(
     refusal
 }
 
-// Whether a CPU write reaches a bank register.
-pub fn reaches_bank(revision: bool, addr: u16) -> bool
-    ensures { λ r. ⌜ r ≡ ofBank (decode revision addr) ⌝ }
+// The part of the board that an address reaches, which below $8000 is none: 0 for none, 1 for the banks, 2 for the sound, 3 for the interrupt.
+pub fn reached(revision: bool, addr: u16) -> u8
+    ensures { λ r. ⌜ r ≡ partOf (decode revision addr) ⌝ }
 {
-    match decode(revision, addr) {
-        Register::Nothing => false,
-        Register::OfBank(bank) => true,
-        Register::OfAudio(sound) => false,
-        Register::OfIrq(line) => false,
+    if 0x8000 <= addr {
+        return match decode(revision, addr) {
+            Register::Nothing => 0,
+            Register::OfBank(bank) => 1,
+            Register::OfAudio(sound) => 2,
+            Register::OfIrq(line) => 3,
+        };
     }
+    0
 }
 
 impl Board {
@@ -91,19 +94,6 @@ impl Board {
         self
     }
 
-    // Interrupt and sound take the byte of a CPU write that reaches one of their registers.
-    pub fn write_engine(self, addr: u16, val: u8) -> Board
-        ensures { λ r. ⌜ r ≡ engineTaken (decode (self .banking .revision) addr) val self ⌝ }
-    {
-        let banking = self.banking;
-        let irq = irq_written(banking.revision, self.irq, addr, val);
-        let audio = audio_written(banking.revision, self.audio, addr, val);
-        let mut board = self;
-        board.irq = irq;
-        board.audio = audio;
-        board
-    }
-
     // A bank register takes the byte of a CPU write that reaches one.
     pub fn write_banks(self, addr: u16, val: u8) -> Board
         ensures { λ r. ⌜ r ≡ banksTaken (decode (self .banking .revision) addr) val self ⌝ }
@@ -117,16 +107,44 @@ impl Board {
         }
     }
 
+    // A register of the sound takes the byte of a CPU write that reaches one.
+    pub fn write_sound(self, addr: u16, val: u8) -> Board
+        ensures { λ r. ⌜ r ≡ soundTaken (decode (self .banking .revision) addr) val self ⌝ }
+    {
+        let banking = self.banking;
+        let audio = audio_written(banking.revision, self.audio, addr, val);
+        let mut board = self;
+        board.audio = audio;
+        board
+    }
+
+    // A register of the interrupt takes the byte of a CPU write that reaches one.
+    pub fn write_line(self, addr: u16, val: u8) -> Board
+        ensures { λ r. ⌜ r ≡ lineTaken (decode (self .banking .revision) addr) val self ⌝ }
+    {
+        let banking = self.banking;
+        let irq = irq_written(banking.revision, self.irq, addr, val);
+        let mut board = self;
+        board.irq = irq;
+        board
+    }
+
     // The register that a CPU write reaches takes its byte.
     fn write_register(self, addr: u16, val: u8) -> Board
         ensures { λ r. ⌜ r ≡ takenAt self addr val ⌝ }
     {
         let banking = self.banking;
-        let banks = reaches_bank(banking.revision, addr);
-        if banks {
+        let part = reached(banking.revision, addr);
+        if part == 1 {
             return self.write_banks(addr, val);
         }
-        self.write_engine(addr, val)
+        if part == 2 {
+            return self.write_sound(addr, val);
+        }
+        if part == 3 {
+            return self.write_line(addr, val);
+        }
+        self
     }
 
     // The byte through the entries as they were, then the register.
