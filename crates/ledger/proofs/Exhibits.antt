@@ -1,14 +1,14 @@
 -- The accepted creations and the stretches that show demand 3 not to be empty. Assumes nothing.
 use mathlib.Core.Path.{_≡_, refl, ap, _∙_}
-use mathlib.Core.Bool.{Bool, true}
-use mathlib.Core.List.{[], _∷_}
+use mathlib.Core.Bool.{true}
 use Prim.Native.Nat.{ℕ, zero, suc}
 use native.Mathlib.Omega.{arith}
 use lib.Dec.{eqb}
 use lib.ListN.{length, take, replicate, length-replicate}
 use borrow.Author.Tests.{eq-eqb}
-use Rattle.basics.specs.Refusals.{firstFailing}
+use Rattle.basics.specs.Lists.{Each}
 use Rattle.basics.proofs.Tests.{both}
+use Rattle.basics.proofs.Numbers.{none-fails}
 use Rattle.layout.specs.declared.regions.MemoryLayout.{MemoryLayout}
 use Rattle.layout.specs.Layout.{withinLimits, fixedLength, changingLength}
 use Rattle.decode.specs.Decode.{decode}
@@ -21,7 +21,8 @@ use Rattle.calls.specs.declared.Call.the-variants.{Clock}
 use Rattle.vrc6.specs.Boards.{Creation}
 use Rattle.vrc6.specs.Checks.{allZero, createRefusal}
 use Rattle.ledger.specs.Ledger.{event, ledgerOf}
-use Rattle.ledger.specs.Demand3.{Each, Quiet, CountsLines, Stretch, stretchTicks}
+use Rattle.ledger.specs.Refused.{createChecks}
+use Rattle.ledger.specs.Demand3.{Quiet, CountsLines, Stretch, stretchTicks}
 use Rattle.ledger.specs.Exhibited.{zeros, oneLine, ExhibitedLaw, StoredExample}
 use Rattle.ledger.proofs.Whole.{demand3}
 
@@ -31,13 +32,10 @@ all-zero zero n = refl
 all-zero (suc k) zero = refl
 all-zero (suc k) (suc n) = all-zero k n
 
-none : {a b z : Bool} → a ≡ true → b ≡ true → z ≡ true → firstFailing ((a, 1) ∷ (b, 2) ∷ (z, 4) ∷ []) ≡ 0
-none p q r = rw (p, q, r)
-
 pub zeros-accepted : (l : MemoryLayout) → withinLimits l ≡ true → (m : Mirroring) (r : Revision) → createRefusal (zeros l m r) ≡ 0
 zeros-accepted l h m r =
     let fit = both (sized (fixedLength l)) (sized (changingLength l)) in
-    none h fit (all-zero 1024 (fixedLength l))
+    none-fails (createChecks (zeros l m r)) refl .1 (h, (fit, (all-zero 1024 (fixedLength l), tt)))
   where
     sized : (n : ℕ) → eqb (length {A = ℕ} (replicate n 0)) n ≡ true
     sized n = eq-eqb (length {A = ℕ} (replicate n 0)) n (length-replicate n 0)

@@ -1,18 +1,18 @@
 -- What every call keeps of a state that a ledger shows, and so that none is refused. Assumes nothing.
 use mathlib.Core.Path.{_≡_, refl, _∙_}
 use mathlib.Core.Bool.{Bool, true, false, cond, not, _&&_}
-use mathlib.Core.List.{[], _∷_}
 use Prim.Native.Nat.{ℕ, _/_, _%_, _≤_}
 use native.Mathlib.Omega.{arith}
 use lib.Dec.{eqb, leb, ltb}
-use lib.ListN.{length, take, length-set}
+use lib.ListN.{length, length-set}
 use borrow.Author.Tests.{eqb-true, le-leb, eq-eqb}
 use Rattle.basics.specs.Bits.{bit}
-use Rattle.basics.specs.Refusals.{firstFailing}
 use Rattle.basics.proofs.Tests.{both, and-left, and-right, either, tested}
+use Rattle.basics.proofs.Numbers.{none-fails}
 use Rattle.steps.proofs.Falling.{one-clock}
 use Rattle.layout.specs.Pages.{writable}
 use Rattle.layout.specs.Layout.{fixedLength, changingLength, withinLimits, lengthsFit}
+use Rattle.layout.specs.Entries.{entryInRange}
 use Rattle.paging.specs.Paging.{Side, cpu, picture, entryFor}
 use Rattle.decode.specs.declared.Register.{Register}
 use Rattle.decode.specs.declared.Register.the-variants.{Nothing, OfBank, OfAudio, OfIrq}
@@ -34,10 +34,11 @@ use Rattle.audio.specs.Laws.{InRange, levels}
 use Rattle.audio.proofs.Kept.{kept-law, sum-law}
 use Rattle.calls.specs.declared.Call.{Call}
 use Rattle.calls.specs.declared.Call.the-variants.{CpuRead, CpuWrite, LentCpuWrite, PictureRead, PictureWrite, Clock, LentClock, SoftReset, HardReset, ReadLevel, PageView, ReadForecast}
-use Rattle.vrc6.specs.Boards.{Creation}
-use Rattle.vrc6.specs.Checks.{allZero, createRefusal, engineInRange, memoryRefusal, registerChecks}
+use Rattle.vrc6.specs.Boards.{Creation, entryOf}
+use Rattle.vrc6.specs.Checks.{createRefusal, engineInRange, memoryRefusal, registerChecks}
 use Rattle.ledger.specs.Ledger.{Ledger, Registers, Timing, Event, cpuWrites, pictureWrites, clocks, resets, looks, noted, opening, byteOf, settled, bankingOf, entries, registersAfter, timingAfter, copied}
 use Rattle.ledger.specs.Demand3.{WholeSum}
+use Rattle.ledger.specs.Refused.{memoryChecks, createChecks}
 use Rattle.ledger.proofs.Ticks.{same-fall}
 use Rattle.ledger.proofs.Shown.{Count, shown, refusalOf, audioAfter, audioNext, or-true}
 
@@ -47,20 +48,15 @@ pub record Accepted (c : Creation) : Type 0 where
   pub fixed : eqb (length (c .fixed)) (fixedLength (c .layout)) ≡ true
   pub changing : length (c .changing) ≡ changingLength (c .layout)
 
-accept : (a b z : Bool) → firstFailing ((a, 1) ∷ (b, 2) ∷ (z, 4) ∷ []) ≡ 0 → (a ≡ true) × (b ≡ true)
-accept true true z h = (refl, refl)
-accept true false z h = absurd (omega arith)
-accept false b z h = absurd (omega arith)
-
 pub accepted : (c : Creation) → createRefusal c ≡ 0 → Accepted c
 accepted c h =
     let f = eqb (length (c .fixed)) (fixedLength (c .layout)) in
     let g = eqb (length (c .changing)) (changingLength (c .layout)) in
-    let p = accept (withinLimits (c .layout)) (f && g) (allZero (take 1024 (c .fixed))) h in
+    let p = none-fails (createChecks c) refl .0 h in
     record {
       limits = p .0;
-      fixed = and-left f g (p .1);
-      changing = eqb-true (length (c .changing)) (changingLength (c .layout)) (and-right f g (p .1));
+      fixed = and-left f g (p .1 .0);
+      changing = eqb-true (length (c .changing)) (changingLength (c .layout)) (and-right f g (p .1 .0));
     }
 
 -- ---- the sound: in range, and its sum the f32 of a whole number
@@ -111,9 +107,6 @@ banks c g =
     let second : leb (byteOf (g .prg8) % 32) 31 ≡ true = omega (arith, le-leb) in
     both (both first second) (mirrored (cond (settled g) (nametableMirroring (byteOf (g .mode))) (c .mirroring)))
 
-none : {a b o e : Bool} → a ≡ true → b ≡ true → o ≡ true → e ≡ true → firstFailing ((a, 1) ∷ (b, 2) ∷ (o && e, 3) ∷ []) ≡ 0
-none p q r s = rw (p, q, r, s)
-
 -- ---- what the next call keeps, part by part
 pub kept-length : (c : Creation) (s : Side) (l : Ledger) (a v : ℕ) → length (copied s c l a v) ≡ length (l .copy)
 kept-length c s l a v =
@@ -156,8 +149,11 @@ module _ (c : Creation) (ok : Accepted c) where
     engine = both (le-leb (l .timing .prescaler) 341 (k .prescaler)) (k .audio .0 .0)
 
     memory : (s : Side) (a : ℕ) (others : Bool) → others ≡ true → memoryRefusal s (shown c l r x) a others ≡ 0
-    memory cpu a others h = none (ok .limits) fits h (entries-law cpu (c .layout) (bankingOf c (l .registers)) (ok .limits) (a / 1024 % 64))
-    memory picture a others h = none (ok .limits) fits h (entries-law picture (c .layout) (bankingOf c (l .registers)) (ok .limits) (a / 1024 % 16))
+    memory s a others h = none-fails (memoryChecks s (shown c l r x) a others) refl .1 (ok .limits, (fits, (both h (entry s), tt)))
+      where
+        entry : (s : Side) → entryInRange (c .layout) (entryOf s (shown c l r x .board) a) ≡ true
+        entry cpu = entries-law cpu (c .layout) (bankingOf c (l .registers)) (ok .limits) (a / 1024 % 64)
+        entry picture = entries-law picture (c .layout) (bankingOf c (l .registers)) (ok .limits) (a / 1024 % 16)
 
     write : (a : ℕ) → memoryRefusal cpu (shown c l r x) a (registerChecks (shown c l r x .board) a) ≡ 0
     write a = memory cpu a (registerChecks (shown c l r x .board) a) (rw (banks c (l .registers), engine) (or-true (ltb a 0x8000)))

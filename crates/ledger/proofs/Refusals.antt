@@ -1,12 +1,12 @@
 -- A refused call gives back what it was given, and its number is that of the first check that fails. Assumes nothing.
-use mathlib.Core.Path.{_≡_, refl, sym, ap, _∙_}
-use mathlib.Core.Bool.{Bool, true, false, cond, false≢true}
-use mathlib.Core.List.{List, [], _∷_}
-use mathlib.Core.Logic.{_↔_}
-use Prim.Native.Nat.{ℕ, suc, _≤_}
-use native.Mathlib.Omega.{arith}
+use mathlib.Core.Path.{_≡_, refl, ap, _∙_}
+use mathlib.Core.Bool.{true, false}
+use mathlib.Core.List.{[]}
+use Prim.Native.Nat.{ℕ}
 use Rattle.basics.specs.Refusals.{firstFailing, unless}
+use Rattle.basics.specs.Numbered.{ownNumbers}
 use Rattle.basics.proofs.Tests.{unless-refused}
+use Rattle.basics.proofs.Numbers.{numbered-law}
 use Rattle.paging.specs.Paging.{cpu, picture}
 use Rattle.audio.specs.declared.Level.the-variants.{Refused as NoLevel}
 use Rattle.audio.specs.Levels.{levelOf, levelIn}
@@ -22,8 +22,7 @@ use Rattle.vrc6.specs.Checks.{createRefusal, memoryRefusal, engineRefusal, cpuW
 use Rattle.engine.specs.Engine.{forecastOf}
 use Rattle.vrc6.specs.Calls.{byteRead, cpuWrite, pictureWrite, reset}
 use Rattle.calls.specs.Lists.{ofRead, ofWrite, given, refusalIn, next}
-use Rattle.ledger.specs.Demand3.{Each}
-use Rattle.ledger.specs.Refused.{forecastTold, GivenBack, RefusedLaw, RefusedCreateLaw, checks, createChecks, Numbered, OrderLaw}
+use Rattle.ledger.specs.Refused.{forecastTold, GivenBack, RefusedLaw, RefusedCreateLaw, checks, createChecks, OrderLaw}
 use Rattle.ledger.proofs.Shown.{answered}
 
 -- a number that is not 0
@@ -88,49 +87,24 @@ pub refused-create-law : RefusedCreateLaw
 refused-create-law c h = back (createRefusal c) (newBoard (c .layout) (c .mirroring) (c .revision)) zeroBoard h
 
 -- ---- the order of the numbers
--- no check has the number 0
-abbrev Some : List (Bool × ℕ) → Type 0
-Some ts = Each (λ t. 1 ≤ t .1) ts
-
-none-fails : (ts : List (Bool × ℕ)) → Some ts → (firstFailing ts ≡ 0) ↔ Each (λ t. t .0 ≡ true) ts
-none-fails [] s = ((λ _. tt), (λ _. refl))
-none-fails (t ∷ ts) s = go (t .0) (none-fails ts (s .1))
-  where
-    go : (b : Bool) → (firstFailing ts ≡ 0) ↔ Each (λ u. u .0 ≡ true) ts
-        → (cond b (firstFailing ts) (t .1) ≡ 0) ↔ ((b ≡ true) × Each (λ u. u .0 ≡ true) ts)
-    go true more = ((λ h. (refl, more .0 h)), (λ h. more .1 (h .1)))
-    go false more = ((λ h. absurd (omega (arith, s .0))), (λ h. absurd (false≢true (h .0))))
-
--- a number that is the first failing
-numbered : (ts : List (Bool × ℕ)) (n : ℕ) → Some ts → n ≡ firstFailing ts → Numbered ts n
-numbered ts n s e =
-    let f = none-fails ts s in
-    record { first = e; only = ((λ h. f .0 (sym e ∙ h)), (λ h. e ∙ f .1 h)) }
-
--- it says nothing of the tests themselves
-three : (n : ℕ) → Some ((true, 1) ∷ (true, 2) ∷ (true, suc n) ∷ [])
-three n = (omega arith, (omega arith, (omega arith, tt)))
-
-one : Some ((true, 3) ∷ [])
-one = (omega arith, tt)
-
-some-checks : (x : State) (k : Call) → Some (checks x k)
-some-checks x (CpuRead a) = three 2
-some-checks x (CpuWrite a v) = three 2
-some-checks x (LentCpuWrite a v) = three 2
-some-checks x (PictureRead a) = three 2
-some-checks x (PictureWrite a v) = three 2
-some-checks x Clock = one
-some-checks x LentClock = one
-some-checks x SoftReset = one
-some-checks x HardReset = one
-some-checks x ReadLevel = one
-some-checks x (PageView a) = three 2
-some-checks x ReadForecast = one
+-- every check has a number of its own, whatever the checks themselves say
+own-numbers : (x : State) (k : Call) → ownNumbers (checks x k) ≡ true
+own-numbers x (CpuRead a) = refl
+own-numbers x (CpuWrite a v) = refl
+own-numbers x (LentCpuWrite a v) = refl
+own-numbers x (PictureRead a) = refl
+own-numbers x (PictureWrite a v) = refl
+own-numbers x Clock = refl
+own-numbers x LentClock = refl
+own-numbers x SoftReset = refl
+own-numbers x HardReset = refl
+own-numbers x ReadLevel = refl
+own-numbers x (PageView a) = refl
+own-numbers x ReadForecast = refl
 
 pub order-law : OrderLaw
 order-law =
     record {
-      create-number = λ c. numbered (createChecks c) (createRefusal c) (three 3) refl;
-      call-number = λ x k. numbered (checks x k) (refusalIn (given x k)) (some-checks x k) (answered x k);
+      create-number = λ c. numbered-law (createChecks c) refl (createRefusal c) refl;
+      call-number = λ x k. numbered-law (checks x k) (own-numbers x k) (refusalIn (given x k)) (answered x k);
     }

@@ -6,6 +6,7 @@ use Prim.Native.Nat.{ℕ, zero, suc, _+_, _-_, _≤_}
 use native.Mathlib.Omega.{arith}
 use lib.Dec.{leb}
 use lib.ListN.{take, drop}
+use Rattle.basics.specs.Lists.{Each}
 use Rattle.basics.specs.Rows.{flag}
 use Rattle.steps.specs.Times.{times, count}
 use Rattle.steps.specs.Falls.{fallen as stepFallen, fell, runs}
@@ -22,7 +23,7 @@ use Rattle.vrc6.specs.Boards.{Creation}
 use Rattle.calls.specs.Lists.{Given, tickIn}
 use Rattle.ledger.specs.Ledger.{Ledger, Timing, Event, cpuWrites, pictureWrites, clocks, resets, looks, event, ledger, noted, timingAfter, timingClocked, fallen}
 use Rattle.ledger.specs.Foreseen.{ticksNoted, foreseen}
-use Rattle.ledger.specs.Demand3.{Each, part, weight, clockCount, tickCount, QuietRegister, Quiet, CountsLines, stretchTicks}
+use Rattle.ledger.specs.Demand3.{part, weight, clockCount, tickCount, QuietRegister, Quiet, CountsLines, stretchTicks}
 
 -- how many
 abbrev pub total : List Bool → ℕ

@@ -3,6 +3,7 @@ use mathlib.Core.Path.{_≡_, refl, sym, ap, ap₂, _∙_, subst}
 use mathlib.Core.Bool.{Bool}
 use mathlib.Core.List.{List, [], _∷_, map}
 use Prim.Native.Nat.{ℕ}
+use Rattle.basics.specs.Lists.{Each}
 use Rattle.basics.specs.Refusals.{unless}
 use Rattle.paging.specs.Paging.{Side, cpu, picture}
 use Rattle.vrc_irq.specs.Interrupt.{irqZero}
@@ -13,7 +14,7 @@ use Rattle.vrc6.specs.Boards.{State, heldBy, Creation, newBoard, zeroBoard, tab
 use Rattle.vrc6.specs.Checks.{createRefusal}
 use Rattle.calls.specs.Lists.{Given, refusalIn, tickIn, after, answers}
 use Rattle.ledger.specs.Ledger.{Ledger, opening, event, noted, ledger, ledgerOf, entries}
-use Rattle.ledger.specs.Demand3.{Each, timingOf, WholeSum, start, Demand3}
+use Rattle.ledger.specs.Demand3.{timingOf, WholeSum, start, Demand3}
 use Rattle.ledger.specs.Foreseen.{foreseen, ForeseenLaw}
 use Rattle.ledger.specs.Played.{played, PlayedLaw}
 use Rattle.ledger.proofs.Ticks.{counted-part}

@@ -6,6 +6,7 @@ use mathlib.Core.List.{List, [], _∷_}
 use Prim.Native.Nat.{ℕ, _+_, _-_, _*_, _/_, _≤_}
 use lib.Ieee.{Float}
 use lib.ListN.{take, drop}
+use Rattle.basics.specs.Lists.{Each}
 use Rattle.basics.specs.Rows.{flag}
 use Rattle.paging.specs.Paging.{Side}
 use Rattle.wholes.specs.Wholes.{float}
@@ -20,11 +21,6 @@ use Rattle.vrc6.specs.Boards.{State, heldBy, Creation, table}
 use Rattle.vrc6.specs.Calls.{create}
 use Rattle.calls.specs.Lists.{Given, refusalIn, tickIn, after, answers}
 use Rattle.ledger.specs.Ledger.{Timing, Event, cpuWrites, pictureWrites, clocks, resets, looks, event, ledgerOf, bankingOf, entries}
-
--- P holds of each element
-abbrev pub Each : {A : Type 0} → (A → Type 0) → List A → Type 0
-Each P [] = Unit {0}
-Each P (x ∷ xs) = P x × Each P xs
 
 -- n neighbours, from the i-th on
 abbrev pub part : {A : Type 0} → (i n : ℕ) → List A → List A

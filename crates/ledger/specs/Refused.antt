@@ -3,12 +3,11 @@
 use mathlib.Core.Path.{_≡_}
 use mathlib.Core.Bool.{Bool, true, false, _&&_}
 use mathlib.Core.List.{List, [], _∷_}
-use mathlib.Core.Logic.{_↔_}
 use mathlib.Core.Option.{Option, none, some}
 use Prim.Native.Nat.{ℕ}
 use lib.Ieee.{Float}
 use lib.ListN.{length, take}
-use Rattle.basics.specs.Refusals.{firstFailing}
+use Rattle.basics.specs.Numbered.{Numbered}
 use Rattle.layout.specs.Layout.{withinLimits, lengthsFit}
 use Rattle.layout.specs.Entries.{entryInRange}
 use Rattle.paging.specs.Paging.{Side, cpu, picture}
@@ -21,7 +20,6 @@ use Rattle.vrc6.specs.Boards.{State, Creation, zeroBoard, entryOf}
 use Rattle.vrc6.specs.Checks.{allZero, engineInRange, registerChecks}
 use Rattle.vrc6.specs.Calls.{create}
 use Rattle.calls.specs.Lists.{Given, ofRead, ofWrite, ofClock, ofLevel, ofForecast, ofView, given, refusalIn, tickIn, next}
-use Rattle.ledger.specs.Demand3.{Each}
 
 -- ---- what an answer carries
 -- its byte; 0 where the call answers none
@@ -120,11 +118,6 @@ createChecks c =
     ∷ (lengthsFit (c .layout) (length (c .fixed)) (length (c .changing)), 2)
     ∷ (allZero (take 1024 (c .fixed)), 4)
     ∷ []
-
--- a refusal number from checks: that of the first that fails, and 0 where all hold and only then (01: "when its condition holds and only then")
-pub record Numbered (ts : List (Bool × ℕ)) (n : ℕ) : Type 0 where
-  pub first : n ≡ firstFailing ts
-  pub only : (n ≡ 0) ↔ Each (λ t. t .0 ≡ true) ts
 
 -- of create, and of every call, whatever board and buffers
 pub record OrderLaw : Type 0 where

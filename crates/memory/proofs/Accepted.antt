@@ -1,55 +1,41 @@
 -- What is known of an access that is not refused. Assumes nothing.
 use mathlib.Core.Path.{_≡_, refl, sym, ap, _∙_}
 use mathlib.Core.Bool.{Bool, true, false, not, _&&_, _||_, false≢true}
-use mathlib.Core.List.{List, [], _∷_}
+use mathlib.Core.List.{List, [], _∷_, _++_}
 use mathlib.Core.Logic.{_⊎_, inl, inr, ⊎-elim}
 use Prim.Native.Nat.{ℕ, _+_, _%_, _≤_, _<_}
 use native.Mathlib.Omega.{arith}
 use lib.Dec.{leb, eqb}
 use lib.ListN.{length}
 use borrow.Author.Tests.{leb-true, eqb-true}
-use Rattle.basics.specs.Refusals.{firstFailing}
+use Rattle.basics.specs.Numbered.{AllHold}
 use Rattle.basics.proofs.Tests.{and-left, and-right}
+use Rattle.basics.proofs.Numbers.{none-fails}
 use Rattle.layout.specs.declared.page.Page.{Page}
 use Rattle.layout.specs.declared.regions.MemoryLayout.{MemoryLayout}
 use Rattle.layout.specs.Pages.{offset, writable, spare}
-use Rattle.layout.specs.Layout.{fixedLength, changingLength, withinLimits, lengthsFit}
+use Rattle.layout.specs.Layout.{fixedLength, changingLength, layoutChecks}
 use Rattle.layout.specs.Entries.{entryInRange}
 use Rattle.layout.specs.Inner.{Limits}
 use Rattle.layout.proofs.Limited.{limits, placed-in}
 use Rattle.memory.specs.Access.{accessRefusal}
 use Rattle.memory.specs.Inner.{Placed}
 
--- conditions 1 and 2 hold: the tests behind them decide
-pub passed : (a b : Bool) (ts : List (Bool × ℕ)) → firstFailing ((a, 1) ∷ (b, 2) ∷ []) ≡ 0
-    → (a ≡ true) × (b ≡ true) × (firstFailing ((a, 1) ∷ (b, 2) ∷ ts) ≡ firstFailing ts)
-passed true true ts h = (refl, refl, refl)
-passed true false ts h = absurd (omega arith)
-passed false b ts h = absurd (omega arith)
-
--- no refusal by 1, 2 or n: all three tests hold
-pub clear : (a b c : Bool) (n : ℕ) → (n ≡ 0 → ⊥) → firstFailing ((a, 1) ∷ (b, 2) ∷ (c, n) ∷ []) ≡ 0
-    → (a ≡ true) × (b ≡ true) × (c ≡ true)
-clear true true true n k h = (refl, refl, refl)
-clear true true false n k h = absurd (k h)
-clear true false c n k h = absurd (omega arith)
-clear false b c n k h = absurd (omega arith)
-
 module _ (l : MemoryLayout) (e : Page) (fixed changing : ℕ) (others : Bool) (none : accessRefusal l e fixed changing others ≡ 0) where
-  all : (withinLimits l ≡ true) × (lengthsFit l fixed changing ≡ true) × ((others && entryInRange l e) ≡ true)
-  all = clear (withinLimits l) (lengthsFit l fixed changing) (others && entryInRange l e) 3 (λ z. omega arith) none
+  all : AllHold (layoutChecks l fixed changing ++ (others && entryInRange l e, 3) ∷ [])
+  all = none-fails (layoutChecks l fixed changing ++ (others && entryInRange l e, 3) ∷ []) refl .0 none
 
   pub within : Limits l
   within = limits l (all .0)
 
   pub fixed-is : fixed ≡ fixedLength l
-  fixed-is = eqb-true fixed (fixedLength l) (and-left (eqb fixed (fixedLength l)) (eqb changing (changingLength l)) (all .1))
+  fixed-is = eqb-true fixed (fixedLength l) (and-left (eqb fixed (fixedLength l)) (eqb changing (changingLength l)) (all .1 .0))
 
   pub changing-is : changing ≡ changingLength l
-  changing-is = eqb-true changing (changingLength l) (and-right (eqb fixed (fixedLength l)) (eqb changing (changingLength l)) (all .1))
+  changing-is = eqb-true changing (changingLength l) (and-right (eqb fixed (fixedLength l)) (eqb changing (changingLength l)) (all .1 .0))
 
   pub in-range : entryInRange l e ≡ true
-  in-range = and-right others (entryInRange l e) (all .2)
+  in-range = and-right others (entryInRange l e) (all .1 .1 .0)
 
   place : ((fixed ≤ offset e) × (offset e + 1024 ≤ fixed + changing)) ⊎ ((offset e + 1024 ≤ fixed) × (writable e ≡ false))
   place = rw (fixed-is, changing-is) (placed-in l e in-range)

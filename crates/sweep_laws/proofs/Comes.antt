@@ -6,6 +6,7 @@ use mathlib.Core.Option.{Option, some}
 use Prim.Native.Nat.{ℕ, _+_, _^_, _<_}
 use native.Mathlib.Nat.{zero-add}
 use lib.ListN.{replicate}
+use Rattle.basics.specs.Lists.{Each}
 use Rattle.basics.specs.Refusals.{unless}
 use Rattle.decode.specs.Decode.{decode}
 use Rattle.vrc_irq.specs.declared.VrcIrq.{VrcIrq}
@@ -17,7 +18,7 @@ use Rattle.vrc6.specs.Boards.{State, Creation, newBoard, zeroBoard}
 use Rattle.vrc6.specs.Calls.{create}
 use Rattle.calls.specs.Lists.{refusalIn, next, after, answers}
 use Rattle.ledger.specs.Ledger.{event}
-use Rattle.ledger.specs.Demand3.{Each, weight, clockCount, start}
+use Rattle.ledger.specs.Demand3.{weight, clockCount, start}
 use Rattle.ledger.proofs.Whole.{demand3}
 use Rattle.played.specs.Played.{callsOf}
 use Rattle.sweep_laws.specs.Counter.{counterAfter}

@@ -4,6 +4,7 @@ use mathlib.Core.Bool.{Bool}
 use mathlib.Core.List.{List, [], _∷_, _++_}
 use Prim.Native.Nat.{ℕ, zero, suc, _/_, _%_}
 use lib.ListN.{replicate}
+use Rattle.basics.specs.Lists.{Each}
 use Rattle.basics.specs.Refusals.{unless}
 use Rattle.vrc_irq.specs.Board.{step, line}
 use Rattle.vrc_irq.specs.Clocks.{irqAfter}
@@ -14,7 +15,7 @@ use Rattle.vrc6.specs.declared.board.Created.{Created}
 use Rattle.vrc6.specs.Boards.{State, Creation, heldBy, newBoard, zeroBoard}
 use Rattle.vrc6.specs.Calls.{create}
 use Rattle.calls.specs.Lists.{next, after}
-use Rattle.ledger.specs.Demand3.{Each, start}
+use Rattle.ledger.specs.Demand3.{start}
 use Rattle.ledger.proofs.Whole.{demand3}
 use Rattle.told.proofs.Numbers.{numbered-law}
 use Rattle.sheet.specs.declared.step.Step.{Step}

@@ -4,6 +4,7 @@ use mathlib.Core.Bool.{true, false}
 use mathlib.Core.List.{List}
 use mathlib.Core.Logic.{_↔_}
 use Prim.Native.Nat.{ℕ, _+_, _^_, _≤_, _<_}
+use Rattle.basics.specs.Lists.{Each}
 use Rattle.vrc_irq.specs.declared.VrcIrq.{VrcIrq}
 use Rattle.vrc_irq.specs.Board.{step, line}
 use Rattle.vrc_irq.specs.Clocks.{First}
@@ -12,7 +13,7 @@ use Rattle.vrc6.specs.Boards.{State, Creation}
 use Rattle.vrc6.specs.Calls.{create}
 use Rattle.calls.specs.Lists.{given, refusalIn, next, after}
 use Rattle.ledger.specs.Ledger.{event}
-use Rattle.ledger.specs.Demand3.{Each, weight, clockCount, start}
+use Rattle.ledger.specs.Demand3.{weight, clockCount, start}
 use Rattle.played.specs.Played.{callsOf}
 use Rattle.sweep_laws.specs.Counter.{counterAfter}
 use Rattle.moments.specs.Moments.{due}

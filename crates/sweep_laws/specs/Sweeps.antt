@@ -4,13 +4,14 @@ use mathlib.Core.Bool.{false}
 use mathlib.Core.List.{List, map}
 use Prim.Native.Nat.{ℕ, _≤_, _<_}
 use lib.ListN.{length}
+use Rattle.basics.specs.Lists.{Each}
 use Rattle.vrc_irq.specs.Board.{step, line}
 use Rattle.vrc_irq.specs.Clocks.{irqAfter}
 use Rattle.calls.specs.declared.Call.{Call}
 use Rattle.vrc6.specs.Boards.{State, Creation}
 use Rattle.vrc6.specs.Calls.{create}
 use Rattle.calls.specs.Lists.{after}
-use Rattle.ledger.specs.Demand3.{Each, clockCount, start}
+use Rattle.ledger.specs.Demand3.{clockCount, start}
 use Rattle.sheet.specs.Steps.{codeOf, stepOf}
 use Rattle.moments.specs.declared.moment.Came.{Came}
 use Rattle.sweep.specs.declared.runs.Run.{Run}

@@ -1,7 +1,7 @@
 -- Creation by numbers: its answer from the refusal number, and the law of named numbers. Assumes nothing.
 use mathlib.Core.Path.{_≡_, refl, sym, ap, _∙_}
 use mathlib.Core.Bool.{Bool, true, false, cond}
-use mathlib.Core.List.{List, [], _∷_}
+use mathlib.Core.List.{List, [], _∷_, _++_}
 use Prim.Native.Nat.{ℕ, zero, suc, _≤_}
 use native.Mathlib.Omega.{arith}
 use lib.Dec.{eqb}
@@ -10,9 +10,9 @@ use borrow.Author.Tests.{eqb-true}
 use Rattle.basics.specs.Refusals.{firstFailing, unless}
 use Rattle.basics.specs.Rows.{flag}
 use Rattle.basics.proofs.Tests.{and-left, first-refused, unless-refused}
+use Rattle.basics.proofs.Numbers.{none-fails, decided-behind}
 use Rattle.layout.specs.declared.regions.MemoryLayout.{MemoryLayout}
 use Rattle.layout.specs.Layout.{withinLimits, lengthsFit, layoutChecks, fixedLength, changingLength}
-use Rattle.memory.proofs.Accepted.{clear, passed}
 use Rattle.slots.specs.declared.Mirroring.{Mirroring}
 use Rattle.slots.specs.declared.Mirroring.the-variants.{Vertical, Horizontal, SingleScreenA, SingleScreenB, FourScreen}
 use Rattle.banks.specs.declared.banking.Revision.{Revision}
@@ -44,7 +44,7 @@ twice (suc n) done given = refl
 -- a create with an empty fixed buffer is refused
 empty : (l : MemoryLayout) (changing : List ℕ) → creationRefusal l [] changing ≡ 0 → ⊥
 empty l changing h =
-    let fit = clear (withinLimits l) (lengthsFit l 0 (length changing)) (allZero (take 1024 [])) 4 (λ z. omega arith) h .1 in
+    let fit = none-fails (layoutChecks l 0 (length changing) ++ (allZero (take 1024 []), 4) ∷ []) refl .0 h .1 .0 in
     omega (arith, eqb-true 0 (fixedLength l) (and-left (eqb 0 (fixedLength l)) (eqb (length changing) (changingLength l)) fit))
 
 pub no-board : (c : Creation) → c .fixed ≡ [] → create c .board ≡ zeroBoard
@@ -81,7 +81,9 @@ module _ (l : MemoryLayout) (m r : ℕ) (fixed changing : List ℕ) where
     -- condition 3
     pub unnamed-by-3 : k ≡ firstFailing (layoutChecks l (length fixed) (length changing)) → k ≡ 0 → record { board = zeroBoard; refusal = 3 } ≡ createdBy l m r fixed changing
     unnamed-by-3 e none =
-        unnamed 3 (sym (passed (withinLimits l) (lengthsFit l (length fixed) (length changing)) ((false, 3) ∷ (allZero (take 1024 fixed), 4) ∷ []) (sym e ∙ none) .2)) (λ z. omega arith)
+        let checked = layoutChecks l (length fixed) (length changing) in
+        let held = none-fails checked refl .0 (sym e ∙ none) in
+        unnamed 3 (sym (decided-behind checked ((false, 3) ∷ (allZero (take 1024 fixed), 4) ∷ []) held)) (λ z. omega arith)
 
 mirroring-again : (m : Mirroring) → mirroringOf (mirroringNumber m) ≡ m
 mirroring-again Vertical = refl

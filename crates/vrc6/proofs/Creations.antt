@@ -1,15 +1,14 @@
 -- The answer of create, from its refusal number. Assumes nothing.
-use mathlib.Core.Path.{_≡_, sym}
-use mathlib.Core.List.{List}
+use mathlib.Core.Path.{_≡_, refl, sym}
+use mathlib.Core.List.{List, [], _∷_, _++_}
 use Prim.Native.Nat.{ℕ}
-use native.Mathlib.Omega.{arith}
 use lib.ListN.{length, take}
 use Rattle.basics.proofs.Tests.{unless-refused, unless-done}
+use Rattle.basics.proofs.Numbers.{none-fails}
 use Rattle.layout.specs.declared.regions.MemoryLayout.{MemoryLayout}
-use Rattle.layout.specs.Layout.{withinLimits, lengthsFit}
+use Rattle.layout.specs.Layout.{layoutChecks}
 use Rattle.layout.specs.Inner.{Limits}
 use Rattle.layout.proofs.Limited.{limits}
-use Rattle.memory.proofs.Accepted.{clear}
 use Rattle.vrc6.specs.Boards.{Creation, newBoard, zeroBoard}
 use Rattle.vrc6.specs.Checks.{allZero, creationRefusal, createRefusal}
 use Rattle.vrc6.specs.Calls.{create}
@@ -17,7 +16,7 @@ use Rattle.vrc6.specs.Calls.{create}
 -- the layout of a creation that is not refused is within the limits
 pub within : (l : MemoryLayout) (fixed changing : List ℕ) → creationRefusal l fixed changing ≡ 0 → Limits l
 within l fixed changing h =
-    limits l (clear (withinLimits l) (lengthsFit l (length fixed) (length changing)) (allZero (take 1024 fixed)) 4 (λ z. omega arith) h .0)
+    limits l (none-fails (layoutChecks l (length fixed) (length changing) ++ (allZero (take 1024 fixed), 4) ∷ []) refl .0 h .0)
 
 module _ (c : Creation) (n : ℕ) (e : n ≡ createRefusal c) where
   pub created-refused : (n ≡ 0 → ⊥) → record { board = zeroBoard; refusal = n } ≡ create c

@@ -1,20 +1,20 @@
 -- The answers of the writes, from their refusal number. Assumes nothing.
 use mathlib.Core.Path.{_≡_, refl, sym, ap, ap₂, subst, _∙_}
 use mathlib.Core.Bool.{Bool, true, false, cond, not, _&&_}
-use mathlib.Core.List.{List}
+use mathlib.Core.List.{List, [], _∷_, _++_}
 use Prim.Native.Nat.{ℕ, zero, suc}
 use native.Mathlib.Omega.{arith}
 use lib.Dec.{T, eqb}
 use lib.ListN.{length}
 use Rattle.basics.specs.Refusals.{unless}
 use Rattle.basics.proofs.Tests.{unless-refused, unless-done}
+use Rattle.basics.proofs.Numbers.{none-fails}
 use Rattle.layout.specs.declared.page.Page.{Page}
 use Rattle.layout.specs.declared.regions.MemoryLayout.{MemoryLayout}
-use Rattle.layout.specs.Layout.{withinLimits, lengthsFit}
+use Rattle.layout.specs.Layout.{withinLimits, layoutChecks}
 use Rattle.layout.specs.Entries.{entryInRange}
 use Rattle.paging.specs.Paging.{cpu, picture}
 use Rattle.memory.specs.Access.{accessRefusal, plainRefusal, written}
-use Rattle.memory.proofs.Accepted.{clear}
 use Rattle.decode.specs.declared.BankRegister.{BankRegister}
 use Rattle.decode.specs.declared.Register.{Register}
 use Rattle.decode.specs.declared.Register.the-variants.{Nothing, OfBank, OfAudio, OfIrq}
@@ -28,7 +28,7 @@ use Rattle.vrc6.specs.Calls.{bankTaken, registerWritten, registerTaken, 
 
 -- a call that is not refused has its layout within the limits
 pub limited : (l : MemoryLayout) (e : Page) (fixed changing : ℕ) (others : Bool) → accessRefusal l e fixed changing others ≡ 0 → withinLimits l ≡ true
-limited l e fixed changing others h = clear (withinLimits l) (lengthsFit l fixed changing) (others && entryInRange l e) 3 (λ z. omega arith) h .0
+limited l e fixed changing others h = none-fails (layoutChecks l fixed changing ++ (others && entryInRange l e, 3) ∷ []) refl .0 h .0
 
 -- a bank write, by the test of the limits
 pub taken : (r : BankRegister) (v : ℕ) (b : Board) (t : Bool) → withinLimits (b .layout) ≡ t

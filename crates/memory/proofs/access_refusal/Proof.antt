@@ -1,16 +1,16 @@
 -- `access_refusal` meets its contract: a refusal by 1 or 2 stands, and otherwise the values decide. Assumes nothing.
-use mathlib.Core.Path.{_≡_, sym, ap, _∙_}
+use mathlib.Core.Path.{_≡_, refl, sym, ap, _∙_}
 use mathlib.Core.Bool.{Bool, _&&_}
 use mathlib.Core.List.{[], _∷_}
 use Prim.Native.Nat.{ℕ}
 use borrow.Author.Needs.{needs}
 use Rattle.basics.specs.Refusals.{firstFailing}
 use Rattle.basics.proofs.Tests.{first-refused}
-use Rattle.layout.specs.Layout.{withinLimits, lengthsFit, layoutChecks}
+use Rattle.basics.proofs.Numbers.{none-fails, decided-behind}
+use Rattle.layout.specs.Layout.{layoutChecks}
 use Rattle.memory.specs.Access.{accessRefusal}
 use Rattle.layout.specs.Entries.{entryInRange}
 use Rattle.layout.proofs.Limited.{limits}
-use Rattle.memory.proofs.Accepted.{passed}
 use Rattle.memory.proofs.access_refusal.Statement.{statement}
 use Rattle.memory.proofs.access_refusal.Tie as tie
 
@@ -27,7 +27,7 @@ entry-in-range-requires : tie.Need-entry-in-range-requires
 entry-in-range-requires c κs =
     let a = c .before .before .args in
     limits (a .layout)
-    (passed (withinLimits (a .layout)) (lengthsFit (a .layout) (a .fixed) (a .changing)) [] (sym (c .before .refusal .ensures) ∙ c .if1 .left) .0)
+    (none-fails (layoutChecks (a .layout) (a .fixed) (a .changing)) refl .0 (sym (c .before .refusal .ensures) ∙ c .if1 .left) .0)
 
 -- conditions 1 and 2 hold
 values : (c : tie.After-entry-in-range)
@@ -37,9 +37,9 @@ values : (c : tie.After-entry-in-range)
     ≡ firstFailing ((v, 3) ∷ [])
 values c v e =
     let a = c .before .before .before .args in
-    passed (withinLimits (a .layout)) (lengthsFit (a .layout) (a .fixed) (a .changing))
-    ((a .others && entryInRange (a .layout) (a .page), 3) ∷ [])
-    (sym (c .before .before .refusal .ensures) ∙ c .before .if1 .left) .2
+    let checked = layoutChecks (a .layout) (a .fixed) (a .changing) in
+    decided-behind checked ((a .others && entryInRange (a .layout) (a .page), 3) ∷ [])
+    (none-fails checked refl .0 (sym (c .before .before .refusal .ensures) ∙ c .before .if1 .left))
     ∙ ap (λ (b : Bool). firstFailing ((a .others && b, 3) ∷ [])) (sym (c .entry-in-range .ensures))
     ∙ ap (λ (b : Bool). firstFailing ((b, 3) ∷ [])) e
 

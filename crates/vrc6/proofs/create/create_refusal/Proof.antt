@@ -1,5 +1,5 @@
 -- `create_refusal` meets its contract. Assumes nothing.
-use mathlib.Core.Path.{_≡_, sym, ap, ap₂, _∙_}
+use mathlib.Core.Path.{_≡_, refl, sym, ap, ap₂, _∙_}
 use mathlib.Core.Bool.{Bool, true}
 use mathlib.Core.List.{[], _∷_}
 use Prim.Native.Nat.{ℕ, _≤_}
@@ -10,8 +10,8 @@ use lib.ListN.{length, take}
 use borrow.Author.Tests.{eqb-true}
 use Rattle.basics.specs.Refusals.{firstFailing}
 use Rattle.basics.proofs.Tests.{first-refused, and-left}
-use Rattle.layout.specs.Layout.{withinLimits, lengthsFit, layoutChecks, fixedLength, changingLength}
-use Rattle.memory.proofs.Accepted.{passed}
+use Rattle.basics.proofs.Numbers.{none-fails, decided-behind}
+use Rattle.layout.specs.Layout.{layoutChecks, fixedLength, changingLength}
 use Rattle.vrc6.specs.Checks.{allZero, creationRefusal}
 use borrow.Author.Needs.{needs}
 use Rattle.vrc6.proofs.create.create_refusal.Statement.{statement}
@@ -31,7 +31,7 @@ first-page-is-zero-requires c κs =
     let a = c .before .before .before .before .args in
     let f = length (now (a .fixed)) in
     let g = length (now (a .changing)) in
-    let fit = passed (withinLimits (a .layout)) (lengthsFit (a .layout) f g) [] (sym (c .before .refusal .ensures) ∙ c .if1 .left) .1 in
+    let fit = none-fails (layoutChecks (a .layout) f g) refl .0 (sym (c .before .refusal .ensures) ∙ c .if1 .left) .1 .0 in
     omega (arith, eqb-true f (fixedLength (a .layout)) (and-left (eqb f (fixedLength (a .layout))) (eqb g (changingLength (a .layout))) fit))
 
 -- conditions 1 and 2 hold: the page of zeros decides
@@ -39,8 +39,9 @@ decided : (c : tie.After-first-page-is-zero) (v : Bool) → c .first-page-is-zer
     → creationRefusal (c .before .before .before .before .before .args .layout) (now (c .before .before .before .before .before .args .fixed)) (now (c .before .before .before .before .before .args .changing)) ≡ firstFailing ((v, 4) ∷ [])
 decided c v e =
     let a = c .before .before .before .before .before .args in
-    passed (withinLimits (a .layout)) (lengthsFit (a .layout) (length (now (a .fixed))) (length (now (a .changing))))
-    ((allZero (take 1024 (now (a .fixed))), 4) ∷ []) (sym (c .before .before .refusal .ensures) ∙ c .before .if1 .left) .2
+    let checked = layoutChecks (a .layout) (length (now (a .fixed))) (length (now (a .changing))) in
+    decided-behind checked ((allZero (take 1024 (now (a .fixed))), 4) ∷ [])
+    (none-fails checked refl .0 (sym (c .before .before .refusal .ensures) ∙ c .before .if1 .left))
     ∙ ap (λ (b : Bool). firstFailing ((b, 4) ∷ [])) (sym (c .first-page-is-zero .ensures) ∙ e)
 
 returns-2 : tie.Need-returns-2
