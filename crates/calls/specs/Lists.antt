@@ -1,8 +1,8 @@
 -- A call as a value, and lists of calls: each call's whole answer, and the board and buffers that it leaves to the next
 -- (01, "Demand 3's lists and their ledger"). Assumes nothing.
-use mathlib.Core.Bool.{Bool, false}
 use mathlib.Core.List.{List, [], _∷_}
 use Prim.Native.Nat.{ℕ}
+use Rattle.basics.specs.Rows.{flag}
 use Rattle.paging.specs.Paging.{cpu, picture}
 use Rattle.audio.specs.Levels.{levelRefusal}
 use Rattle.vrc6.specs.declared.board.Board.{Board}
@@ -85,14 +85,14 @@ refusalIn (ofLevel r) = levelRefusal (r .level)
 refusalIn (ofForecast r) = forecastRefusal (r .forecast)
 refusalIn (ofView bytes n) = n
 
--- whether it reports a tick
-abbrev pub tickIn : Given → Bool
-tickIn (ofRead r) = false
-tickIn (ofWrite r) = false
-tickIn (ofClock r) = r .ticked
-tickIn (ofLevel r) = false
-tickIn (ofForecast r) = false
-tickIn (ofView bytes n) = false
+-- how many ticks it reports
+abbrev pub ticksIn : Given → ℕ
+ticksIn (ofRead r) = 0
+ticksIn (ofWrite r) = 0
+ticksIn (ofClock r) = flag (r .ticked)
+ticksIn (ofLevel r) = 0
+ticksIn (ofForecast r) = 0
+ticksIn (ofView bytes n) = 0
 
 -- what it says beside the board and the view's bytes, as `step` answers it
 abbrev pub said : Given → Answer

@@ -9,6 +9,7 @@ use borrow.Author.Tests.{eqb-true, le-leb, eq-eqb}
 use Rattle.basics.specs.Bits.{bit}
 use Rattle.basics.proofs.Tests.{both, and-left, and-right, either, tested}
 use Rattle.basics.proofs.Numbers.{none-fails}
+use Rattle.steps.proofs.Iterated.{keeps}
 use Rattle.steps.proofs.Falling.{one-clock}
 use Rattle.layout.specs.Pages.{writable}
 use Rattle.layout.specs.Layout.{fixedLength, changingLength, withinLimits, lengthsFit}
@@ -36,7 +37,7 @@ use Rattle.calls.specs.declared.Call.{Call}
 use Rattle.calls.specs.declared.Call.the-variants.{CpuRead, CpuWrite, LentCpuWrite, PictureRead, PictureWrite, Clock, LentClock, SoftReset, HardReset, ReadLevel, PageView, ReadForecast}
 use Rattle.vrc6.specs.Boards.{Creation, entryOf}
 use Rattle.vrc6.specs.Checks.{createRefusal, engineInRange, memoryRefusal, registerChecks}
-use Rattle.ledger.specs.Ledger.{Ledger, Registers, Timing, Event, cpuWrites, pictureWrites, clocks, resets, looks, noted, opening, byteOf, settled, bankingOf, entries, registersAfter, timingAfter, copied}
+use Rattle.ledger.specs.Ledger.{Ledger, Registers, Timing, Event, cpuWrites, pictureWrites, clocks, resets, looks, noted, opening, byteOf, settled, bankingOf, entries, registersAfter, timingAfter, timingClocked, copied}
 use Rattle.ledger.specs.Demand3.{WholeSum}
 use Rattle.ledger.specs.Refused.{memoryChecks, createChecks}
 use Rattle.ledger.proofs.Ticks.{same-fall}
@@ -130,6 +131,11 @@ kept-timing (OfIrq Reload) v t h = h
 kept-timing (OfIrq Control) v t h = either (λ n. n ≤ 341) (bit 1 v) (omega arith) h
 kept-timing (OfIrq Acknowledge) v t h = h
 
+clocked-timing : (t : Timing) → t .prescaler ≤ 341 → timingClocked t .prescaler ≤ 341
+clocked-timing t h =
+    either (λ n. n ≤ 341) (t .enabled && not (t .cycle))
+    (rw (same-fall (t .prescaler)) (one-clock step line pace (t .prescaler) .within h)) h
+
 kept-audio : (k : Register) (v : ℕ) (x : Audio) → Sounds x → Sounds (audioAfter k v x)
 kept-audio Nothing v x h = h
 kept-audio (OfBank b) v x h = h
@@ -184,15 +190,12 @@ module _ (c : Creation) (ok : Accepted c) where
       }
   kept l x (pictureWrites a v) k =
       record { eight = k .eight; copy = kept-length c picture l a v ∙ k .copy; prescaler = k .prescaler; audio = k .audio }
-  kept l x clocks k =
-      let p = l .timing .prescaler in
+  kept l x (clocks n) k =
       record {
         eight = k .eight;
         copy = k .copy;
-        prescaler =
-            either (λ n. n ≤ 341) (l .timing .enabled && not (l .timing .cycle))
-            (rw (same-fall p) (one-clock step line pace p .within (k .prescaler))) (k .prescaler);
-        audio = clocked-sounds x (k .audio);
+        prescaler = keeps timingClocked (λ t. t .prescaler ≤ 341) clocked-timing (l .timing) (k .prescaler) n;
+        audio = keeps audioClocked Sounds clocked-sounds x (k .audio) n;
       }
   kept l x resets k =
       record { eight = k .eight; copy = k .copy; prescaler = omega arith; audio = (kept-law .reset x (k .audio .0), k .audio .1) }

@@ -83,14 +83,14 @@ module _ (c : Creation) where
       → held (noted c l e .registers) n ≡ orElse (writtenTo c n e) (held (l .registers) n)
   noted-held l eight (cpuWrites a v) n h = after-held (l .registers) eight v (decode (isB (c .revision)) a) n h
   noted-held l eight (pictureWrites a v) n h = refl
-  noted-held l eight clocks n h = refl
+  noted-held l eight (clocks m) n h = refl
   noted-held l eight resets n h = refl
   noted-held l eight looks n h = refl
 
   noted-eight : (l : Ledger) (e : Event) → length (noted c l e .registers .chr) ≡ length (l .registers .chr)
   noted-eight l (cpuWrites a v) = kept-eight (decode (isB (c .revision)) a) v (l .registers)
   noted-eight l (pictureWrites a v) = refl
-  noted-eight l clocks = refl
+  noted-eight l (clocks m) = refl
   noted-eight l resets = refl
   noted-eight l looks = refl
 
@@ -123,14 +123,14 @@ module _ (c : Creation) where
       → getD (noted c l e .copy) i 0 ≡ byteOr (storedBy c l e i) (getD (l .copy) i 0)
   noted-copy l (cpuWrites a v) i h = copied-at (entryFor cpu (entries cpu c (l .registers)) a) (l .copy) a v i h
   noted-copy l (pictureWrites a v) i h = copied-at (entryFor picture (entries picture c (l .registers)) a) (l .copy) a v i h
-  noted-copy l clocks i h = refl
+  noted-copy l (clocks m) i h = refl
   noted-copy l resets i h = refl
   noted-copy l looks i h = refl
 
   noted-length : (l : Ledger) (e : Event) → length (noted c l e .copy) ≡ length (l .copy)
   noted-length l (cpuWrites a v) = kept-length c cpu l a v
   noted-length l (pictureWrites a v) = kept-length c picture l a v
-  noted-length l clocks = refl
+  noted-length l (clocks m) = refl
   noted-length l resets = refl
   noted-length l looks = refl
 

@@ -4,13 +4,14 @@ use mathlib.Core.Bool.{true, false}
 use mathlib.Core.List.{[]}
 use Prim.Native.Nat.{ℕ}
 use Rattle.basics.specs.Refusals.{firstFailing, unless}
+use Rattle.basics.specs.Rows.{flag}
 use Rattle.basics.specs.Numbered.{ownNumbers}
 use Rattle.basics.proofs.Tests.{unless-refused}
 use Rattle.basics.proofs.Numbers.{numbered-law}
 use Rattle.paging.specs.Paging.{cpu, picture}
 use Rattle.audio.specs.declared.Level.the-variants.{Refused as NoLevel}
 use Rattle.audio.specs.Levels.{levelOf, levelIn}
-use Rattle.vrc_irq.specs.Board.{forecastAnswer}
+use Rattle.vrc_irq.specs.Board.{clockAnswer, forecastAnswer}
 use Rattle.vrc6.specs.declared.board.Board.{Board}
 use Rattle.vrc6.specs.declared.board.ByteRead.{ByteRead}
 use Rattle.vrc6.specs.declared.board.Written.{Written}
@@ -48,7 +49,7 @@ module _ (x : State) where
   of-clock : (engineRefusal (x .board) ≡ 0 → ⊥) → GivenBack x (given x Clock) (next x Clock)
   of-clock h =
       let n = engineRefusal (x .board) in
-      record { state = board-back n _ h; byte = refl; view = refl; tick = back n _ false h; level = refl; forecast = refl }
+      record { state = board-back n _ h; byte = refl; view = refl; tick = ap flag (back n (clockAnswer (x .board .irq) .ticked) false h); level = refl; forecast = refl }
 
   of-level : (engineRefusal (x .board) ≡ 0 → ⊥) → GivenBack x (given x ReadLevel) x
   of-level h =

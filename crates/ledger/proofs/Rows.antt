@@ -6,6 +6,7 @@ use Prim.Native.Nat.{ℕ}
 use lib.Ieee.{round, ofInt, add, div, mul, toBits}
 use Rattle.basics.specs.Rows.{agree}
 use Rattle.basics.specs.Refusals.{unless}
+use Rattle.steps.specs.Times.{times, count}
 use Rattle.layout.specs.Layout.{withinLimits}
 use Rattle.decode.specs.Decode.{decode}
 use Rattle.slots.specs.declared.Mirroring.{Mirroring}
@@ -87,7 +88,7 @@ same =
     }
 
 computed : agree (rowsOf byEffects) ≡ true
-unfolding decode cpuEntries pictureEntries chrSlots nametableNumbers nametableMirroring pulseWritten sawWritten pulseClocked sawClocked pulseLevel sawLevel audioWritten audioClocked lastPulse outputOf levelName round ofInt add div mul toBits
+unfolding times count decode cpuEntries pictureEntries chrSlots nametableNumbers nametableMirroring pulseWritten sawWritten pulseClocked sawClocked pulseLevel sawLevel audioWritten audioClocked lastPulse outputOf levelName round ofInt add div mul toBits
 computed = refl
 
 pub positions : Positions

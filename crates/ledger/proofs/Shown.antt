@@ -1,15 +1,18 @@
 -- The state that a ledger shows, and that every call which is not refused leads from one such state to the next. Assumes nothing.
-use mathlib.Core.Path.{_≡_, refl, ap, _∙_}
+use mathlib.Core.Path.{_≡_, refl, sym, ap, _∙_}
 use mathlib.Core.Bool.{Bool, true, false, _||_}
 use mathlib.Core.List.{List, [], _∷_, map}
 use mathlib.Core.Option.{Option, some}
 use Prim.Native.Nat.{ℕ, zero, suc, _%_, _<_}
 use native.Mathlib.Omega.{arith}
-use native.Mathlib.Nat.{le-of-suc-le-suc, not-suc-le-zero, mod-eq-of-lt}
+use native.Mathlib.Nat.{add-zero, le-of-suc-le-suc, not-suc-le-zero, mod-eq-of-lt}
 use lib.Ieee.{Float}
 use lib.ListN.{length, set}
 use Rattle.basics.specs.Refusals.{firstFailing, unless}
+use Rattle.basics.specs.Rows.{flag}
 use Rattle.basics.proofs.Tests.{either}
+use Rattle.steps.specs.Times.{times, count}
+use Rattle.steps.proofs.Iterated.{worked-out, carried}
 use Rattle.paging.specs.Paging.{cpu, picture}
 use Rattle.decode.specs.declared.Register.{Register}
 use Rattle.decode.specs.declared.Register.the-variants.{Nothing, OfBank, OfAudio, OfIrq}
@@ -30,16 +33,17 @@ use Rattle.vrc6.specs.declared.board.Board.{Board}
 use Rattle.engine.specs.declared.answers.Forecast.the-variants.{Refused}
 use Rattle.calls.specs.declared.Call.{Call}
 use Rattle.calls.specs.declared.Call.the-variants.{CpuRead, CpuWrite, LentCpuWrite, PictureRead, PictureWrite, Clock, LentClock, SoftReset, HardReset, ReadLevel, PageView, ReadForecast}
-use Rattle.vrc6.specs.Boards.{State, heldBy, Creation, paged}
+use Rattle.vrc6.specs.Boards.{State, heldBy, Creation, paged, withEngine}
 use Rattle.vrc6.specs.Checks.{engineRefusal, memoryRefusal, cpuWriteRefusal}
 use Rattle.engine.specs.Engine.{forecastOf}
 use Rattle.engine.specs.Writes.{irqWritten}
 use Rattle.vrc6.specs.Calls.{registerWritten, cpuWritten, pictureWritten, clocked, wasReset}
-use Rattle.calls.specs.Lists.{given, refusalIn, tickIn, forecastRefusal, next}
-use Rattle.ledger.specs.Ledger.{Ledger, Registers, Timing, Event, cpuWrites, pictureWrites, clocks, resets, looks, event, noted, byteOf, has, anyHas, bankingOf, taken, registersAfter, timingAfter, copied}
+use Rattle.calls.specs.Lists.{given, refusalIn, ticksIn, forecastRefusal, next}
+use Rattle.ledger.specs.Ledger.{Ledger, Registers, Timing, Event, cpuWrites, pictureWrites, clocks, resets, looks, event, noted, byteOf, has, anyHas, bankingOf, taken, registersAfter, timingAfter, timingClocked, copied}
 use Rattle.ledger.specs.Refused.{checks}
 use Rattle.ledger.specs.Played.{done}
-use Rattle.ledger.specs.Foreseen.{ticksNoted}
+use Rattle.ledger.specs.Foreseen.{clockTicks, ticksNoted}
+use Rattle.ledger.specs.Demand3.{timingOf}
 use Rattle.ledger.proofs.Ticks.{same-fall}
 
 -- ---- a state from a ledger, and from what the ledger does not hold: three interrupt values and the sound
@@ -85,7 +89,7 @@ audioAfter (OfIrq i) v a = a
 abbrev irqNext : Creation → VrcIrq → Event → VrcIrq
 irqNext c q (cpuWrites a v) = irqAt (decode (isB (c .revision)) a) v q
 irqNext c q (pictureWrites a v) = q
-irqNext c q clocks = clockAnswer q .irq
+irqNext c q (clocks n) = times n (λ p. clockAnswer p .irq) q
 irqNext c q resets = irqZero
 irqNext c q looks = q
 
@@ -95,7 +99,7 @@ countNext c l r e = countOf (irqNext c (irqOf (l .timing) r) e)
 abbrev pub audioNext : Creation → Audio → Event → Audio
 audioNext c x (cpuWrites a v) = audioAfter (decode (isB (c .revision)) a) v x
 audioNext c x (pictureWrites a v) = x
-audioNext c x clocks = audioClocked x
+audioNext c x (clocks n) = times n audioClocked x
 audioNext c x resets = audioReset x
 audioNext c x looks = x
 
@@ -139,6 +143,19 @@ module _ (c : Creation) (g : Registers) (eight : length (g .chr) ≡ 8) where
   written (OfIrq Control) v t r a h = refl
   written (OfIrq Acknowledge) v t r a h = refl
 
+-- ---- clocks, one after the other
+-- the board changes in its interrupt and its sound alone
+clocked-board : (n : ℕ) (b : Board)
+    → times n clocked b ≡ withEngine b (times n (λ q. clockAnswer q .irq) (b .irq)) (times n audioClocked (b .audio))
+unfolding times
+clocked-board n b =
+    worked-out clocked b
+    (λ m. withEngine b (times m (λ q. clockAnswer q .irq) (b .irq)) (times m audioClocked (b .audio))) refl (λ m. refl) n
+
+-- and of the interrupt the ledger has its own four values
+clocked-timing : (n : ℕ) (q : VrcIrq) → timingOf (times n (λ p. clockAnswer p .irq) q) ≡ times n timingClocked (timingOf q)
+clocked-timing n q = carried (λ p. clockAnswer p .irq) timingClocked timingOf (λ p. rw (same-fall (p .«prescalar_counter»))) q n
+
 -- ---- every call, where it is not refused
 pub led : (c : Creation) (l : Ledger) (r : Count) (x : Audio) (e : Event) → length (l .registers .chr) ≡ 8
     → done (shown c l r x) e ≡ shown c (noted c l e) (countNext c l r e) (audioNext c x e)
@@ -146,7 +163,11 @@ led c l r x (cpuWrites a v) e =
     ap (λ (b : Board). heldBy b (c .fixed) (copied cpu c l a v))
     (written c (l .registers) e (decode (isB (c .revision)) a) v (l .timing) r x (chr-law (isB (c .revision)) a))
 led c l r x (pictureWrites a v) e = refl
-led c l r x clocks e = rw (same-fall (l .timing .prescaler))
+led c l r x (clocks n) e =
+    let q = times n (λ p. clockAnswer p .irq) (irqOf (l .timing) r) in
+    ap (λ (b : Board). heldBy b (c .fixed) (l .copy)) (clocked-board n (boardOf c (l .registers) (l .timing) r x))
+    ∙ ap (λ (t : Timing). heldBy (boardOf c (l .registers) t (countOf q) (times n audioClocked x)) (c .fixed) (l .copy))
+    (clocked-timing n (irqOf (l .timing) r))
 led c l r x resets e = refl
 led c l r x looks e = refl
 
@@ -162,6 +183,7 @@ board-by : (x : State) (b : Board) (n : ℕ) → n ≡ 0 → heldBy (unless n b 
 board-by x b n h = ap (λ (m : ℕ). heldBy (unless m b (x .board)) (x .fixed) (x .changing)) h
 
 pub next-done : (x : State) (k : Call) → refusalOf x k ≡ 0 → next x k ≡ done x (event k)
+unfolding times
 next-done x (CpuRead a) h = refl
 next-done x (CpuWrite a v) h = left-by x (cpuWritten x a v) (cpuWriteRefusal x a) h
 next-done x (LentCpuWrite a v) h = left-by x (cpuWritten x a v) (cpuWriteRefusal x a) h
@@ -210,14 +232,19 @@ module _ (c : Creation) (l : Ledger) (r : Count) (x : Audio) where
       → next (shown c l r x) k ≡ shown c (noted c l (event k)) (countNext c l r (event k)) (audioNext c x (event k))
   stepped k e h = next-done (shown c l r x) k h ∙ led c l r x (event k) e
 
-  pub ticked : (k : Call) → refusalOf (shown c l r x) k ≡ 0 → tickIn (given (shown c l r x) k) ≡ ticksNoted (l .timing) (event k)
+  one-tick : engineRefusal (shown c l r x .board) ≡ 0 → ticksIn (given (shown c l r x) Clock) ≡ ticksNoted (l .timing) (clocks 1)
+  unfolding times count
+  one-tick h =
+      ap (λ (n : ℕ). flag (unless n (clockAnswer (irqOf (l .timing) r) .ticked) false)) h ∙ sym (add-zero (flag (clockTicks (l .timing))))
+
+  pub ticked : (k : Call) → refusalOf (shown c l r x) k ≡ 0 → ticksIn (given (shown c l r x) k) ≡ ticksNoted (l .timing) (event k)
   ticked (CpuRead a) h = refl
   ticked (CpuWrite a v) h = refl
   ticked (LentCpuWrite a v) h = refl
   ticked (PictureRead a) h = refl
   ticked (PictureWrite a v) h = refl
-  ticked Clock h = ap (λ (n : ℕ). unless n (clockAnswer (irqOf (l .timing) r) .ticked) false) h
-  ticked LentClock h = ap (λ (n : ℕ). unless n (clockAnswer (irqOf (l .timing) r) .ticked) false) h
+  ticked Clock h = one-tick h
+  ticked LentClock h = one-tick h
   ticked SoftReset h = refl
   ticked HardReset h = refl
   ticked ReadLevel h = refl

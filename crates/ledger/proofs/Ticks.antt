@@ -1,5 +1,5 @@
 -- The ticks of a stretch, foreseen from the ledger alone. Assumes nothing.
-use mathlib.Core.Path.{_≡_, refl, sym, ap, _∙_}
+use mathlib.Core.Path.{_≡_, refl, sym, ap, ap₂, _∙_}
 use mathlib.Core.Bool.{Bool, true, false, cond}
 use mathlib.Core.List.{List, [], _∷_, map}
 use Prim.Native.Nat.{ℕ, zero, suc, _+_, _-_, _≤_}
@@ -7,7 +7,6 @@ use native.Mathlib.Omega.{arith}
 use lib.Dec.{leb}
 use lib.ListN.{take, drop}
 use Rattle.basics.specs.Lists.{Each}
-use Rattle.basics.specs.Rows.{flag}
 use Rattle.steps.specs.Times.{times, count}
 use Rattle.steps.specs.Falls.{fallen as stepFallen, fell, runs}
 use Rattle.steps.proofs.Falling.{range-law, add-law, tick-law}
@@ -20,15 +19,15 @@ use Rattle.vrc_irq.specs.Board.{step, line}
 use Rattle.vrc_irq.proofs.Board.{pace}
 use Rattle.calls.specs.declared.Call.{Call}
 use Rattle.vrc6.specs.Boards.{Creation}
-use Rattle.calls.specs.Lists.{Given, tickIn}
+use Rattle.calls.specs.Lists.{Given, ticksIn}
 use Rattle.ledger.specs.Ledger.{Ledger, Timing, Event, cpuWrites, pictureWrites, clocks, resets, looks, event, ledger, noted, timingAfter, timingClocked, fallen}
-use Rattle.ledger.specs.Foreseen.{ticksNoted, foreseen}
+use Rattle.ledger.specs.Foreseen.{clockTicks, ticksNoted, foreseen}
 use Rattle.ledger.specs.Demand3.{part, weight, clockCount, tickCount, QuietRegister, Quiet, CountsLines, stretchTicks}
 
--- how many
-abbrev pub total : List Bool → ℕ
+-- all together
+abbrev pub total : List ℕ → ℕ
 total [] = 0
-total (b ∷ bs) = flag b + total bs
+total (n ∷ ns) = n + total ns
 
 -- the ledger's own fall is the step's
 pub same-fall : (p : ℕ) → fallen p ≡ stepFallen step line p
@@ -36,31 +35,43 @@ same-fall p = let e : p + 341 - 3 ≡ p + 338 = omega arith in ap (λ (n : ℕ).
 
 -- ---- one call of a stretch: it is its weight in clocks
 record Weighed (t u : Timing) (e : Event) : Type 0 where
-  reported : flag (ticksNoted t e) ≡ runs step line (t .prescaler) (weight e)
+  reported : ticksNoted t e ≡ runs step line (t .prescaler) (weight e)
   rest : u .prescaler ≡ fell step line (t .prescaler) (weight e)
   enabled : u .enabled ≡ true
   lines : u .cycle ≡ false
 
 -- no clock
-none : (t u : Timing) (e : Event) → weight e ≡ 0 → ticksNoted t e ≡ false → t ≡ u → CountsLines t → Weighed t u e
+none : (t u : Timing) (e : Event) → weight e ≡ 0 → ticksNoted t e ≡ 0 → t ≡ u → CountsLines t → Weighed t u e
 unfolding times count
 none t u e w f s h =
     record {
-      reported = ap flag f ∙ ap (λ (n : ℕ). runs step line (t .prescaler) n) (sym w);
+      reported = f ∙ ap (λ (n : ℕ). runs step line (t .prescaler) n) (sym w);
       rest = ap (λ (v : Timing). v .prescaler) (sym s) ∙ ap (λ (n : ℕ). fell step line (t .prescaler) n) (sym w);
       enabled = ap (λ (v : Timing). v .enabled) (sym s) ∙ h .enabled;
       lines = ap (λ (v : Timing). v .cycle) (sym s) ∙ h .lines;
     }
 
--- a clock
-once : (t : Timing) → CountsLines t → Weighed t (timingClocked t) clocks
+-- one clock, while lines are counted
+once : (t : Timing) → t .enabled ≡ true → t .cycle ≡ false → timingClocked t .prescaler ≡ stepFallen step line (t .prescaler)
+once t e f = simp (e, f) (same-fall (t .prescaler))
+
+tests : (t : Timing) → t .enabled ≡ true → t .cycle ≡ false → clockTicks t ≡ leb (t .prescaler) 3
+tests t e f = rw (e, f)
+
+-- clocks, one after the other
+many : (n : ℕ) (t : Timing) → CountsLines t → Weighed t (times n timingClocked t) (clocks n)
 unfolding times count
-once t h =
+many zero t h = record { reported = refl; rest = refl; enabled = h .enabled; lines = h .lines }
+many (suc n) t h =
+    let u = times n timingClocked t in
+    let w = many n t h in
     record {
-      reported = simp (h .enabled, h .lines) (omega arith);
-      rest = simp (h .enabled, h .lines) (same-fall (t .prescaler));
-      enabled = h .enabled;
-      lines = h .lines;
+      reported =
+          ap₂ (λ (b : Bool) (m : ℕ). cond b 1 0 + m)
+          (tests u (w .enabled) (w .lines) ∙ ap (λ (p : ℕ). leb p 3) (w .rest)) (w .reported);
+      rest = once u (w .enabled) (w .lines) ∙ ap (stepFallen step line) (w .rest);
+      enabled = w .enabled;
+      lines = w .lines;
     }
 
 -- a register that is neither control nor acknowledge
@@ -77,7 +88,7 @@ module _ (c : Creation) where
   weighed (cpuWrites a v) l q h =
       none (l .timing) (noted c l (cpuWrites a v) .timing) (cpuWrites a v) refl refl (still (decode (isB (c .revision)) a) v (l .timing) q) h
   weighed (pictureWrites a v) l q h = none (l .timing) (l .timing) (pictureWrites a v) refl refl refl h
-  weighed clocks l q h = once (l .timing) h
+  weighed (clocks n) l q h = many n (l .timing) h
   weighed resets l q h = absurd q
   weighed looks l q h = none (l .timing) (l .timing) looks refl refl refl h
 
@@ -101,7 +112,7 @@ module _ (c : Creation) where
   foreseen-take ks l zero = refl
   foreseen-take [] l (suc n) = refl
   foreseen-take (k ∷ ks) l (suc n) =
-      ap (λ (rest : List Bool). ticksNoted (l .timing) (event k) ∷ rest) (foreseen-take ks (noted c l (event k)) n)
+      ap (λ (rest : List ℕ). ticksNoted (l .timing) (event k) ∷ rest) (foreseen-take ks (noted c l (event k)) n)
 
   foreseen-drop : (ks : List Call) (l : Ledger) (i : ℕ)
       → drop i (foreseen c l ks) ≡ foreseen c (ledger c l (take i ks)) (drop i ks)
@@ -115,21 +126,21 @@ module _ (c : Creation) where
       ap (take n) (foreseen-drop ks l i) ∙ foreseen-take (drop i ks) (ledger c l (take i ks)) n
 
 -- ---- answers that report what is foreseen
-pub total-map : (gs : List Given) → tickCount gs ≡ total (map tickIn gs)
+pub total-map : (gs : List Given) → tickCount gs ≡ total (map ticksIn gs)
 total-map [] = refl
-total-map (a ∷ gs) = ap (λ (m : ℕ). flag (tickIn a) + m) (total-map gs)
+total-map (a ∷ gs) = ap (λ (m : ℕ). ticksIn a + m) (total-map gs)
 
-map-take : (m : ℕ) (gs : List Given) → map tickIn (take m gs) ≡ take m (map tickIn gs)
+map-take : (m : ℕ) (gs : List Given) → map ticksIn (take m gs) ≡ take m (map ticksIn gs)
 map-take zero gs = refl
 map-take (suc m) [] = refl
-map-take (suc m) (a ∷ gs) = ap (λ (bs : List Bool). tickIn a ∷ bs) (map-take m gs)
+map-take (suc m) (a ∷ gs) = ap (λ (ns : List ℕ). ticksIn a ∷ ns) (map-take m gs)
 
-map-drop : (m : ℕ) (gs : List Given) → map tickIn (drop m gs) ≡ drop m (map tickIn gs)
+map-drop : (m : ℕ) (gs : List Given) → map ticksIn (drop m gs) ≡ drop m (map ticksIn gs)
 map-drop zero gs = refl
 map-drop (suc m) [] = refl
 map-drop (suc m) (a ∷ gs) = map-drop m gs
 
-pub counted-part : (c : Creation) (ks : List Call) (l : Ledger) (gs : List Given) → map tickIn gs ≡ foreseen c l ks
+pub counted-part : (c : Creation) (ks : List Call) (l : Ledger) (gs : List Given) → map ticksIn gs ≡ foreseen c l ks
     → (i n : ℕ) → Each (λ k. Quiet c (event k)) (part i n ks) → CountsLines (ledger c l (take i ks) .timing)
     → tickCount (part i n gs) ≡ stretchTicks (clockCount (part i n ks)) (ledger c l (take i ks) .timing .prescaler)
 counted-part c ks l gs e i n q h =

@@ -1,6 +1,5 @@
 -- Demand 3, proved. Assumes nothing.
 use mathlib.Core.Path.{_≡_, refl, sym, ap, ap₂, _∙_, subst}
-use mathlib.Core.Bool.{Bool}
 use mathlib.Core.List.{List, [], _∷_, map}
 use Prim.Native.Nat.{ℕ}
 use Rattle.basics.specs.Lists.{Each}
@@ -12,7 +11,7 @@ use Rattle.audio.specs.Sound.{audioAt}
 use Rattle.calls.specs.declared.Call.{Call}
 use Rattle.vrc6.specs.Boards.{State, heldBy, Creation, newBoard, zeroBoard, table}
 use Rattle.vrc6.specs.Checks.{createRefusal}
-use Rattle.calls.specs.Lists.{Given, refusalIn, tickIn, after, answers}
+use Rattle.calls.specs.Lists.{Given, refusalIn, ticksIn, after, answers}
 use Rattle.ledger.specs.Ledger.{Ledger, opening, event, noted, ledger, ledgerOf, entries}
 use Rattle.ledger.specs.Demand3.{timingOf, WholeSum, start, Demand3}
 use Rattle.ledger.specs.Foreseen.{foreseen, ForeseenLaw}
@@ -28,7 +27,7 @@ pub record After (c : Creation) (l : Ledger) (ks : List Call) (x : State) (gs : 
   pub lasts : Kept c (ledger c l ks) audio
   pub state : x ≡ shown c (ledger c l ks) count audio
   pub none : Each (λ a. refusalIn a ≡ 0) gs
-  pub foretold : map tickIn gs ≡ foreseen c l ks
+  pub foretold : map ticksIn gs ≡ foreseen c l ks
 
 module _ (c : Creation) (ok : Accepted c) where
   ran : (ks : List Call) (l : Ledger) (r : Count) (x : Audio) → Kept c l x
@@ -47,8 +46,8 @@ module _ (c : Creation) (ok : Accepted c) where
         none =
             (answered (shown c l r x) call ∙ fine, subst (λ (y : State). Each (λ a. refusalIn a ≡ 0) (answers y ks)) (sym step) (more .none));
         foretold =
-            ap₂ (λ (b : Bool) (rest : List Bool). b ∷ rest) (ticked c l r x call fine)
-            (ap (λ (y : State). map tickIn (answers y ks)) step ∙ more .foretold);
+            ap₂ (λ (n : ℕ) (rest : List ℕ). n ∷ rest) (ticked c l r x call fine)
+            (ap (λ (y : State). map ticksIn (answers y ks)) step ∙ more .foretold);
       }
 
   -- each call's own effect, one after the other

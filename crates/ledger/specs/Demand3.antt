@@ -7,7 +7,6 @@ use Prim.Native.Nat.{ℕ, _+_, _-_, _*_, _/_, _≤_}
 use lib.Ieee.{Float}
 use lib.ListN.{take, drop}
 use Rattle.basics.specs.Lists.{Each}
-use Rattle.basics.specs.Rows.{flag}
 use Rattle.paging.specs.Paging.{Side}
 use Rattle.wholes.specs.Wholes.{float}
 use Rattle.decode.specs.declared.Register.{Register}
@@ -19,7 +18,7 @@ use Rattle.vrc_irq.specs.declared.VrcIrq.{VrcIrq}
 use Rattle.calls.specs.declared.Call.{Call}
 use Rattle.vrc6.specs.Boards.{State, heldBy, Creation, table}
 use Rattle.vrc6.specs.Calls.{create}
-use Rattle.calls.specs.Lists.{Given, refusalIn, tickIn, after, answers}
+use Rattle.calls.specs.Lists.{Given, refusalIn, ticksIn, after, answers}
 use Rattle.ledger.specs.Ledger.{Timing, Event, cpuWrites, pictureWrites, clocks, resets, looks, event, ledgerOf, bankingOf, entries}
 
 -- n neighbours, from the i-th on
@@ -31,7 +30,7 @@ part i n xs = take n (drop i xs)
 abbrev pub weight : Event → ℕ
 weight (cpuWrites a v) = 0
 weight (pictureWrites a v) = 0
-weight clocks = 1
+weight (clocks n) = n
 weight resets = 0
 weight looks = 0
 
@@ -40,10 +39,10 @@ abbrev pub clockCount : List Call → ℕ
 clockCount [] = 0
 clockCount (k ∷ ks) = weight (event k) + clockCount ks
 
--- how many of the answers report a tick: "its ticks are the clock answers in it that report a tick" (01)
+-- how many ticks the answers report together: "its ticks are the clock answers in it that report a tick" (01), a clock's answer one at most
 abbrev pub tickCount : List Given → ℕ
 tickCount [] = 0
-tickCount (a ∷ rest) = flag (tickIn a) + tickCount rest
+tickCount (a ∷ rest) = ticksIn a + tickCount rest
 
 -- a register that is not control ($F001) and not acknowledge ($F002)
 abbrev pub QuietRegister : Register → Type 0
@@ -58,7 +57,7 @@ QuietRegister (OfIrq Acknowledge) = ⊥
 abbrev pub Quiet : Creation → Event → Type 0
 Quiet c (cpuWrites a v) = QuietRegister (decode (isB (c .revision)) a)
 Quiet c (pictureWrites a v) = Unit {0}
-Quiet c clocks = Unit {0}
+Quiet c (clocks n) = Unit {0}
 Quiet c resets = ⊥
 Quiet c looks = Unit {0}
 

@@ -75,7 +75,7 @@ givenTo b (OfIrq r) v = none
 abbrev pub writtenTo : Creation → (b : BankRegister) → Event → Option ℕ
 writtenTo c b (cpuWrites a v) = givenTo b (decode (isB (c .revision)) a) v
 writtenTo c b (pictureWrites a v) = none
-writtenTo c b clocks = none
+writtenTo c b (clocks n) = none
 writtenTo c b resets = none
 writtenTo c b looks = none
 
@@ -97,7 +97,7 @@ storedThrough e fixed address v i = cond (writable e && eqb (offset e - fixed + 
 abbrev pub storedBy : Creation → Ledger → Event → (i : ℕ) → Option ℕ
 storedBy c l (cpuWrites a v) i = storedThrough (entryFor cpu (entries cpu c (l .registers)) a) (length (c .fixed)) a v i
 storedBy c l (pictureWrites a v) i = storedThrough (entryFor picture (entries picture c (l .registers)) a) (length (c .fixed)) a v i
-storedBy c l clocks i = none
+storedBy c l (clocks n) i = none
 storedBy c l resets i = none
 storedBy c l looks i = none
 

@@ -8,6 +8,7 @@ use Prim.Native.Nat.{ℕ, _+_, _-_, _%_}
 use lib.Dec.{leb}
 use lib.ListN.{length, set, replicate}
 use Rattle.basics.specs.Bits.{bit}
+use Rattle.steps.specs.Times.{times}
 use Rattle.layout.specs.declared.page.Page.{Page}
 use Rattle.layout.specs.Pages.{offset, writable}
 use Rattle.paging.specs.Paging.{Side, cpu, picture, entryFor}
@@ -98,10 +99,11 @@ abbrev pub entries : Side → Creation → Registers → List Page
 entries s c r = tableOf s (c .layout) (bankingOf c r)
 
 -- ---- what a call is to it
--- a call's name and arguments, board and buffers left out (01)
+-- a call's name and arguments, board and buffers left out (01); clocks are as many as the call is
 pub data Event : Type 0 where
   cpuWrites pictureWrites : (address byte : ℕ) → Event
-  clocks resets looks : Event
+  clocks : (count : ℕ) → Event
+  resets looks : Event
 
 -- a call, in either form, by value or lent; reads, level, view and forecast are all one to it (01: "Any other call: nothing")
 abbrev pub event : Call → Event
@@ -110,8 +112,8 @@ event (CpuWrite a v) = cpuWrites a v
 event (LentCpuWrite a v) = cpuWrites a v
 event (PictureRead a) = looks
 event (PictureWrite a v) = pictureWrites a v
-event Clock = clocks
-event LentClock = clocks
+event Clock = clocks 1
+event LentClock = clocks 1
 event SoftReset = resets
 event HardReset = resets
 event ReadLevel = looks
@@ -181,7 +183,7 @@ noted c l (cpuWrites a v) =
       timing = timingAfter (decode (isB (c .revision)) a) v (l .timing);
     }
 noted c l (pictureWrites a v) = record { registers = l .registers; copy = copied picture c l a v; timing = l .timing }
-noted c l clocks = record { registers = l .registers; copy = l .copy; timing = timingClocked (l .timing) }
+noted c l (clocks n) = record { registers = l .registers; copy = l .copy; timing = times n timingClocked (l .timing) }
 noted c l resets = record { registers = l .registers; copy = l .copy; timing = noTiming }
 noted c l looks = l
 

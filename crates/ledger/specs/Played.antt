@@ -1,6 +1,7 @@
 -- What a list leaves, where no call is refused: each call's own effect, one after the other. Assumes nothing.
 use mathlib.Core.Path.{_≡_}
 use mathlib.Core.List.{List, [], _∷_}
+use Rattle.steps.specs.Times.{times}
 use Rattle.calls.specs.declared.Call.{Call}
 use Rattle.vrc6.specs.Boards.{State, heldBy, Creation, newBoard}
 use Rattle.vrc6.specs.Calls.{create, cpuWritten, pictureWritten, clocked, wasReset}
@@ -12,7 +13,7 @@ use Rattle.ledger.specs.Demand3.{start}
 abbrev pub done : State → Event → State
 done x (cpuWrites a v) = cpuWritten x a v
 done x (pictureWrites a v) = pictureWritten x a v
-done x clocks = heldBy (clocked (x .board)) (x .fixed) (x .changing)
+done x (clocks n) = heldBy (times n clocked (x .board)) (x .fixed) (x .changing)
 done x resets = heldBy (wasReset (x .board)) (x .fixed) (x .changing)
 done x looks = x
 

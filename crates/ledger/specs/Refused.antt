@@ -1,7 +1,7 @@
 -- Refused means given back, of every call (01, "The board's calls", the table's first row) and of create, and the order of the numbers.
 -- Assumes nothing.
 use mathlib.Core.Path.{_≡_}
-use mathlib.Core.Bool.{Bool, true, false, _&&_}
+use mathlib.Core.Bool.{Bool, true, _&&_}
 use mathlib.Core.List.{List, [], _∷_}
 use mathlib.Core.Option.{Option, none, some}
 use Prim.Native.Nat.{ℕ}
@@ -19,7 +19,7 @@ use Rattle.calls.specs.declared.Call.the-variants.{CpuRead, CpuWrite, LentCpuWr
 use Rattle.vrc6.specs.Boards.{State, Creation, zeroBoard, entryOf}
 use Rattle.vrc6.specs.Checks.{allZero, engineInRange, registerChecks}
 use Rattle.vrc6.specs.Calls.{create}
-use Rattle.calls.specs.Lists.{Given, ofRead, ofWrite, ofClock, ofLevel, ofForecast, ofView, given, refusalIn, tickIn, next}
+use Rattle.calls.specs.Lists.{Given, ofRead, ofWrite, ofClock, ofLevel, ofForecast, ofView, given, refusalIn, ticksIn, next}
 
 -- ---- what an answer carries
 -- its byte; 0 where the call answers none
@@ -71,7 +71,7 @@ pub record GivenBack (x : State) (answer : Given) (left : State) : Type 0 where
   pub state : left ≡ x
   pub byte : byteIn answer ≡ 0
   pub view : viewIn answer ≡ []
-  pub tick : tickIn answer ≡ false
+  pub tick : ticksIn answer ≡ 0
   pub level : levelsIn answer ≡ []
   pub forecast : forecastsIn answer ≡ []
 
