@@ -18,9 +18,8 @@ use Rattle.banks.specs.declared.banking.Revision.the-variants.{A, B}
 use Rattle.slots.specs.Chr.{chrSlots}
 use Rattle.tables.specs.Tables.{pictureEntries}
 use Rattle.calls.specs.declared.Call.the-variants.{Clock}
-use Rattle.vrc6.specs.Boards.{Creation}
 use Rattle.vrc6.specs.Checks.{allZero, createRefusal}
-use Rattle.ledger.specs.Ledger.{event, ledgerOf}
+use Rattle.ledger.specs.Ledger.{Origin, event, ledgerOf}
 use Rattle.ledger.specs.Refused.{createChecks}
 use Rattle.ledger.specs.Demand3.{Quiet, CountsLines, Stretch, stretchTicks}
 use Rattle.ledger.specs.Exhibited.{zeros, oneLine, ExhibitedLaw, StoredExample}
@@ -41,9 +40,9 @@ zeros-accepted l h m r =
     sized n = eq-eqb (length {A = ℕ} (replicate n 0)) n (length-replicate n 0)
 
 -- clocks are quiet
-quiet : (c : Creation) (n : ℕ) → Each (λ k. Quiet c (event k)) (replicate n Clock)
-quiet c zero = tt
-quiet c (suc n) = (tt, quiet c n)
+quiet : (o : Origin) (n : ℕ) → Each (λ k. Quiet o (event k)) (replicate n Clock)
+quiet o zero = tt
+quiet o (suc n) = (tt, quiet o n)
 
 module _ (l : MemoryLayout) (m : Mirroring) where
   begins : (r : Revision) → CountsLines (ledgerOf (zeros l m r) (take 1 (oneLine r)) .timing)
@@ -60,7 +59,7 @@ pub exhibited-law : ExhibitedLaw
 exhibited-law l h m r =
     let c = zeros l m r in
     let fine = zeros-accepted l h m r in
-    let s : Stretch c (oneLine r) 1 114 = record { quiet = quiet c 114; begun = begins l m r } in
+    let s : Stretch c (oneLine r) 1 114 = record { quiet = quiet (ledgerOf c (take 1 (oneLine r)) .origin) 114; begun = begins l m r } in
     record {
       accepted = fine;
       stretch = s;

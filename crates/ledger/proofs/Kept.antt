@@ -37,7 +37,7 @@ use Rattle.calls.specs.declared.Call.{Call}
 use Rattle.calls.specs.declared.Call.the-variants.{CpuRead, CpuWrite, LentCpuWrite, PictureRead, PictureWrite, Clock, LentClock, SoftReset, HardReset, ReadLevel, PageView, ReadForecast}
 use Rattle.vrc6.specs.Boards.{Creation, entryOf}
 use Rattle.vrc6.specs.Checks.{createRefusal, engineInRange, memoryRefusal, registerChecks}
-use Rattle.ledger.specs.Ledger.{Ledger, Registers, Timing, Event, cpuWrites, pictureWrites, clocks, resets, looks, noted, opening, byteOf, settled, bankingOf, entries, registersAfter, timingAfter, timingClocked, copied}
+use Rattle.ledger.specs.Ledger.{Ledger, Origin, Registers, Timing, Event, cpuWrites, pictureWrites, clocks, resets, looks, noted, opening, byteOf, settled, bankingBy, bankingOf, entries, registersAfter, timingAfter, timingClocked, copied}
 use Rattle.ledger.specs.Demand3.{WholeSum}
 use Rattle.ledger.specs.Refused.{memoryChecks, createChecks}
 use Rattle.ledger.proofs.Ticks.{same-fall}
@@ -102,16 +102,16 @@ mirrored SingleScreenB = refl
 mirrored FourScreen = refl
 
 -- the banking values that a ledger shows are in range
-pub banks : (c : Creation) (g : Registers) → bankingInRange (bankingOf c g) ≡ true
-banks c g =
+pub banks : (o : Origin) (g : Registers) → bankingInRange (bankingBy o g) ≡ true
+banks o g =
     let first : leb (byteOf (g .prg16) % 16) 15 ≡ true = omega (arith, le-leb) in
     let second : leb (byteOf (g .prg8) % 32) 31 ≡ true = omega (arith, le-leb) in
-    both (both first second) (mirrored (cond (settled g) (nametableMirroring (byteOf (g .mode))) (c .mirroring)))
+    both (both first second) (mirrored (cond (settled g) (nametableMirroring (byteOf (g .mode))) (o .mirroring)))
 
 -- ---- what the next call keeps, part by part
 pub kept-length : (c : Creation) (s : Side) (l : Ledger) (a v : ℕ) → length (copied s c l a v) ≡ length (l .copy)
 kept-length c s l a v =
-    either (λ xs. length xs ≡ length (l .copy)) (writable (entryFor s (entries s c (l .registers)) a))
+    either (λ xs. length xs ≡ length (l .copy)) (writable (entryFor s (entries s c l) a))
     (length-set (l .copy) _ v) refl
 
 pub kept-eight : (k : Register) (v : ℕ) (g : Registers) → length (registersAfter k v g .chr) ≡ length (g .chr)
@@ -158,11 +158,11 @@ module _ (c : Creation) (ok : Accepted c) where
     memory s a others h = none-fails (memoryChecks s (shown c l r x) a others) refl .1 (ok .limits, (fits, (both h (entry s), tt)))
       where
         entry : (s : Side) → entryInRange (c .layout) (entryOf s (shown c l r x .board) a) ≡ true
-        entry cpu = entries-law cpu (c .layout) (bankingOf c (l .registers)) (ok .limits) (a / 1024 % 64)
-        entry picture = entries-law picture (c .layout) (bankingOf c (l .registers)) (ok .limits) (a / 1024 % 16)
+        entry cpu = entries-law cpu (c .layout) (bankingOf l) (ok .limits) (a / 1024 % 64)
+        entry picture = entries-law picture (c .layout) (bankingOf l) (ok .limits) (a / 1024 % 16)
 
     write : (a : ℕ) → memoryRefusal cpu (shown c l r x) a (registerChecks (shown c l r x .board) a) ≡ 0
-    write a = memory cpu a (registerChecks (shown c l r x .board) a) (rw (banks c (l .registers), engine) (or-true (ltb a 0x8000)))
+    write a = memory cpu a (registerChecks (shown c l r x .board) a) (rw (banks (l .origin) (l .registers), engine) (or-true (ltb a 0x8000)))
 
     pub none-refused : (call : Call) → refusalOf (shown c l r x) call ≡ 0
     none-refused (CpuRead a) = memory cpu a true refl
@@ -179,9 +179,9 @@ module _ (c : Creation) (ok : Accepted c) where
     none-refused ReadForecast = rw engine
 
   -- ---- the next call
-  pub kept : (l : Ledger) (x : Audio) (e : Event) → Kept c l x → Kept c (noted c l e) (audioNext c x e)
+  pub kept : (l : Ledger) (x : Audio) (e : Event) → Kept c l x → Kept c (noted c l e) (audioNext (l .origin) x e)
   kept l x (cpuWrites a v) k =
-      let reached = decode (isB (c .revision)) a in
+      let reached = decode (isB (l .origin .revision)) a in
       record {
         eight = kept-eight reached v (l .registers) ∙ k .eight;
         copy = kept-length c cpu l a v ∙ k .copy;

@@ -80,28 +80,28 @@ module _ (g : Registers) (eight : length (g .chr) ≡ 8) (v : ℕ) where
 module _ (c : Creation) where
   -- one call
   noted-held : (l : Ledger) → length (l .registers .chr) ≡ 8 → (e : Event) (n : BankRegister) → Eleven n
-      → held (noted c l e .registers) n ≡ orElse (writtenTo c n e) (held (l .registers) n)
-  noted-held l eight (cpuWrites a v) n h = after-held (l .registers) eight v (decode (isB (c .revision)) a) n h
+      → held (noted c l e .registers) n ≡ orElse (writtenTo (l .origin) n e) (held (l .registers) n)
+  noted-held l eight (cpuWrites a v) n h = after-held (l .registers) eight v (decode (isB (l .origin .revision)) a) n h
   noted-held l eight (pictureWrites a v) n h = refl
   noted-held l eight (clocks m) n h = refl
   noted-held l eight resets n h = refl
   noted-held l eight looks n h = refl
 
   noted-eight : (l : Ledger) (e : Event) → length (noted c l e .registers .chr) ≡ length (l .registers .chr)
-  noted-eight l (cpuWrites a v) = kept-eight (decode (isB (c .revision)) a) v (l .registers)
+  noted-eight l (cpuWrites a v) = kept-eight (decode (isB (l .origin .revision)) a) v (l .registers)
   noted-eight l (pictureWrites a v) = refl
   noted-eight l (clocks m) = refl
   noted-eight l resets = refl
   noted-eight l looks = refl
 
   all-held : (ks : List Call) (l : Ledger) → length (l .registers .chr) ≡ 8 → (n : BankRegister) → Eleven n
-      → held (ledger c l ks .registers) n ≡ orElse (lastTo c n ks) (held (l .registers) n)
+      → held (ledger c l ks .registers) n ≡ orElse (lastTo c l n ks) (held (l .registers) n)
   all-held [] l eight n h = refl
   all-held (k ∷ ks) l eight n h =
       let e = event k in
       all-held ks (noted c l e) (noted-eight l e ∙ eight) n h
-      ∙ ap (orElse (lastTo c n ks)) (noted-held l eight e n h)
-      ∙ or-or (lastTo c n ks) (writtenTo c n e) (held (l .registers) n)
+      ∙ ap (orElse (lastTo c (noted c l e) n ks)) (noted-held l eight e n h)
+      ∙ or-or (lastTo c (noted c l e) n ks) (writtenTo (l .origin) n e) (held (l .registers) n)
 
   -- ---- places
   copied-at : (e : Page) (copy : List ℕ) (a v i : ℕ) → i < length copy
@@ -121,8 +121,8 @@ module _ (c : Creation) where
 
   noted-copy : (l : Ledger) (e : Event) (i : ℕ) → i < length (l .copy)
       → getD (noted c l e .copy) i 0 ≡ byteOr (storedBy c l e i) (getD (l .copy) i 0)
-  noted-copy l (cpuWrites a v) i h = copied-at (entryFor cpu (entries cpu c (l .registers)) a) (l .copy) a v i h
-  noted-copy l (pictureWrites a v) i h = copied-at (entryFor picture (entries picture c (l .registers)) a) (l .copy) a v i h
+  noted-copy l (cpuWrites a v) i h = copied-at (entryFor cpu (entries cpu c l) a) (l .copy) a v i h
+  noted-copy l (pictureWrites a v) i h = copied-at (entryFor picture (entries picture c l) a) (l .copy) a v i h
   noted-copy l (clocks m) i h = refl
   noted-copy l resets i h = refl
   noted-copy l looks i h = refl
@@ -161,7 +161,7 @@ empty c Mode = refl
 empty c (Chr i) = none-at 8 i
 
 pub registers-law : RegistersLaw
-registers-law c ks n h = all-held c ks (opening c) refl n h ∙ ap (orElse (lastTo c n ks)) (empty c n) ∙ or-none (lastTo c n ks)
+registers-law c ks n h = all-held c ks (opening c) refl n h ∙ ap (orElse (lastTo c (opening c) n ks)) (empty c n) ∙ or-none (lastTo c (opening c) n ks)
 
 pub copy-law : CopyLaw
 copy-law c ks i h = all-copied c ks (opening c) i h

@@ -39,7 +39,7 @@ use Rattle.engine.specs.Engine.{forecastOf}
 use Rattle.engine.specs.Writes.{irqWritten}
 use Rattle.vrc6.specs.Calls.{registerWritten, cpuWritten, pictureWritten, clocked, wasReset}
 use Rattle.calls.specs.Lists.{given, refusalIn, ticksIn, forecastRefusal, next}
-use Rattle.ledger.specs.Ledger.{Ledger, Registers, Timing, Event, cpuWrites, pictureWrites, clocks, resets, looks, event, noted, byteOf, has, anyHas, bankingOf, taken, registersAfter, timingAfter, timingClocked, copied}
+use Rattle.ledger.specs.Ledger.{Ledger, Origin, Registers, Timing, Event, cpuWrites, pictureWrites, clocks, resets, looks, event, noted, byteOf, has, anyHas, bankingBy, taken, registersAfter, timingAfter, timingClocked, copied}
 use Rattle.ledger.specs.Refused.{checks}
 use Rattle.ledger.specs.Played.{done}
 use Rattle.ledger.specs.Foreseen.{clockTicks, ticksNoted}
@@ -67,11 +67,11 @@ irqOf t r =
 abbrev pub countOf : VrcIrq → Count
 countOf q = record { reload = q .reload; counter = q .counter; pending = q .«irq_pending» }
 
-abbrev pub boardOf : Creation → Registers → Timing → Count → Audio → Board
-boardOf c g t r a = paged (c .layout) (bankingOf c g) (irqOf t r) a
+abbrev pub boardOf : Creation → Origin → Registers → Timing → Count → Audio → Board
+boardOf c o g t r a = paged (c .layout) (bankingBy o g) (irqOf t r) a
 
 abbrev pub shown : Creation → Ledger → Count → Audio → State
-shown c l r a = heldBy (boardOf c (l .registers) (l .timing) r a) (c .fixed) (l .copy)
+shown c l r a = heldBy (boardOf c (l .origin) (l .registers) (l .timing) r a) (c .fixed) (l .copy)
 
 -- ---- interrupt and sound after a call
 abbrev irqAt : Register → ℕ → VrcIrq → VrcIrq
@@ -86,22 +86,22 @@ audioAfter (OfBank b) v a = a
 audioAfter (OfAudio s) v a = audioWritten s v a
 audioAfter (OfIrq i) v a = a
 
-abbrev irqNext : Creation → VrcIrq → Event → VrcIrq
-irqNext c q (cpuWrites a v) = irqAt (decode (isB (c .revision)) a) v q
-irqNext c q (pictureWrites a v) = q
-irqNext c q (clocks n) = times n (λ p. clockAnswer p .irq) q
-irqNext c q resets = irqZero
-irqNext c q looks = q
+abbrev irqNext : Origin → VrcIrq → Event → VrcIrq
+irqNext o q (cpuWrites a v) = irqAt (decode (isB (o .revision)) a) v q
+irqNext o q (pictureWrites a v) = q
+irqNext o q (clocks n) = times n (λ p. clockAnswer p .irq) q
+irqNext o q resets = irqZero
+irqNext o q looks = q
 
-abbrev pub countNext : Creation → Ledger → Count → Event → Count
-countNext c l r e = countOf (irqNext c (irqOf (l .timing) r) e)
+abbrev pub countNext : Ledger → Count → Event → Count
+countNext l r e = countOf (irqNext (l .origin) (irqOf (l .timing) r) e)
 
-abbrev pub audioNext : Creation → Audio → Event → Audio
-audioNext c x (cpuWrites a v) = audioAfter (decode (isB (c .revision)) a) v x
-audioNext c x (pictureWrites a v) = x
-audioNext c x (clocks n) = times n audioClocked x
-audioNext c x resets = audioReset x
-audioNext c x looks = x
+abbrev pub audioNext : Origin → Audio → Event → Audio
+audioNext o x (cpuWrites a v) = audioAfter (decode (isB (o .revision)) a) v x
+audioNext o x (pictureWrites a v) = x
+audioNext o x (clocks n) = times n audioClocked x
+audioNext o x resets = audioReset x
+audioNext o x looks = x
 
 -- ---- a bank write
 pub or-true : (b : Bool) → (b || true) ≡ true
@@ -122,8 +122,8 @@ any-set (o ∷ os) (suc i) v h = rw (any-set os i v (le-of-suc-le-suc h)) (or-tr
 abbrev pub Known : Register → Type 0
 Known k = (i : ℕ) → k ≡ OfBank (Chr i) → i < 8
 
-module _ (c : Creation) (g : Registers) (eight : length (g .chr) ≡ 8) where
-  banked : (b : BankRegister) (v : ℕ) → Known (OfBank b) → bankWritten b v (bankingOf c g) ≡ bankingOf c (taken b v g)
+module _ (c : Creation) (o : Origin) (g : Registers) (eight : length (g .chr) ≡ 8) where
+  banked : (b : BankRegister) (v : ℕ) → Known (OfBank b) → bankWritten b v (bankingBy o g) ≡ bankingBy o (taken b v g)
   banked Prg16 v h = refl
   banked Prg8 v h = refl
   banked Mode v h = refl
@@ -134,8 +134,8 @@ module _ (c : Creation) (g : Registers) (eight : length (g .chr) ≡ 8) where
       simp (same, map-set, any-set (g .chr) i v inside, or-true)
 
   written : (k : Register) (v : ℕ) (t : Timing) (r : Count) (a : Audio) → Known k
-      → registerWritten k v (boardOf c g t r a)
-      ≡ boardOf c (registersAfter k v g) (timingAfter k v t) (countOf (irqAt k v (irqOf t r))) (audioAfter k v a)
+      → registerWritten k v (boardOf c o g t r a)
+      ≡ boardOf c o (registersAfter k v g) (timingAfter k v t) (countOf (irqAt k v (irqOf t r))) (audioAfter k v a)
   written Nothing v t r a h = refl
   written (OfBank b) v t r a h = rw (banked b v h)
   written (OfAudio s) v t r a h = refl
@@ -158,15 +158,15 @@ clocked-timing n q = carried (λ p. clockAnswer p .irq) timingClocked timingOf (
 
 -- ---- every call, where it is not refused
 pub led : (c : Creation) (l : Ledger) (r : Count) (x : Audio) (e : Event) → length (l .registers .chr) ≡ 8
-    → done (shown c l r x) e ≡ shown c (noted c l e) (countNext c l r e) (audioNext c x e)
+    → done (shown c l r x) e ≡ shown c (noted c l e) (countNext l r e) (audioNext (l .origin) x e)
 led c l r x (cpuWrites a v) e =
     ap (λ (b : Board). heldBy b (c .fixed) (copied cpu c l a v))
-    (written c (l .registers) e (decode (isB (c .revision)) a) v (l .timing) r x (chr-law (isB (c .revision)) a))
+    (written c (l .origin) (l .registers) e (decode (isB (l .origin .revision)) a) v (l .timing) r x (chr-law (isB (l .origin .revision)) a))
 led c l r x (pictureWrites a v) e = refl
 led c l r x (clocks n) e =
     let q = times n (λ p. clockAnswer p .irq) (irqOf (l .timing) r) in
-    ap (λ (b : Board). heldBy b (c .fixed) (l .copy)) (clocked-board n (boardOf c (l .registers) (l .timing) r x))
-    ∙ ap (λ (t : Timing). heldBy (boardOf c (l .registers) t (countOf q) (times n audioClocked x)) (c .fixed) (l .copy))
+    ap (λ (b : Board). heldBy b (c .fixed) (l .copy)) (clocked-board n (boardOf c (l .origin) (l .registers) (l .timing) r x))
+    ∙ ap (λ (t : Timing). heldBy (boardOf c (l .origin) (l .registers) t (countOf q) (times n audioClocked x)) (c .fixed) (l .copy))
     (clocked-timing n (irqOf (l .timing) r))
 led c l r x resets e = refl
 led c l r x looks e = refl
@@ -229,7 +229,7 @@ answered x ReadForecast = forecast-number (x .board .irq) (engineRefusal (x .boa
 
 module _ (c : Creation) (l : Ledger) (r : Count) (x : Audio) where
   pub stepped : (k : Call) → length (l .registers .chr) ≡ 8 → refusalOf (shown c l r x) k ≡ 0
-      → next (shown c l r x) k ≡ shown c (noted c l (event k)) (countNext c l r (event k)) (audioNext c x (event k))
+      → next (shown c l r x) k ≡ shown c (noted c l (event k)) (countNext l r (event k)) (audioNext (l .origin) x (event k))
   stepped k e h = next-done (shown c l r x) k h ∙ led c l r x (event k) e
 
   one-tick : engineRefusal (shown c l r x .board) ≡ 0 → ticksIn (given (shown c l r x) Clock) ≡ ticksNoted (l .timing) (clocks 1)

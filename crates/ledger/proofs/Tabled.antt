@@ -15,7 +15,7 @@ use Rattle.tables.proofs.Counts.{count-law, repeat-law}
 use Rattle.tables.proofs.Entries.{entries-law}
 use Rattle.audio.specs.declared.Audio.{Audio}
 use Rattle.vrc6.specs.Boards.{State, Creation, table}
-use Rattle.ledger.specs.Ledger.{Registers, Timing, byteOf, settled, bankingOf, ledgerOf}
+use Rattle.ledger.specs.Ledger.{Origin, Registers, Timing, byteOf, settled, bankingBy, ledgerOf}
 use Rattle.ledger.specs.Laws.{Tables, TablesLaw}
 use Rattle.ledger.proofs.Shown.{Count, boardOf}
 use Rattle.ledger.proofs.Kept.{Accepted, accepted, banks}
@@ -26,33 +26,33 @@ count-bytes [] = refl
 count-bytes (o ∷ os) = ap suc (count-bytes os)
 
 -- the banking values of eight CHR registers
-well-formed : (c : Creation) (g : Registers) → length (g .chr) ≡ 8 → WellFormed (bankingOf c g)
-well-formed c g eight =
+well-formed : (o : Origin) (g : Registers) → length (g .chr) ≡ 8 → WellFormed (bankingBy o g)
+well-formed o g eight =
     record {
-      in-range = banks c g;
+      in-range = banks o g;
       prgs = refl;
       chrs = count-bytes (g .chr) ∙ eight;
       names =
-          either (λ ns. length ns ≡ 4) (settled g) (numbers-count (byteOf (g .mode)) (map byteOf (g .chr))) (mirroring-count (c .mirroring));
+          either (λ ns. length ns ≡ 4) (settled g) (numbers-count (byteOf (g .mode)) (map byteOf (g .chr))) (mirroring-count (o .mirroring));
     }
 
 -- a board that a ledger shows
-tables : (c : Creation) (ok : Accepted c) (g : Registers) (t : Timing) (r : Count) (a : Audio) → WellFormed (bankingOf c g)
-    → Tables (boardOf c g t r a)
-tables c ok g t r a w =
-    record { counts = counts; in-range = in-range; repeats = repeat-law (c .layout) (bankingOf c g) w }
+tables : (c : Creation) (ok : Accepted c) (o : Origin) (g : Registers) (t : Timing) (r : Count) (a : Audio) → WellFormed (bankingBy o g)
+    → Tables (boardOf c o g t r a)
+tables c ok o g t r a w =
+    record { counts = counts; in-range = in-range; repeats = repeat-law (c .layout) (bankingBy o g) w }
   where
-    counts : (s : Side) → length (table s (boardOf c g t r a)) ≡ entryCount s
-    counts cpu = count-law cpu (c .layout) (bankingOf c g) w
-    counts picture = count-law picture (c .layout) (bankingOf c g) w
+    counts : (s : Side) → length (table s (boardOf c o g t r a)) ≡ entryCount s
+    counts cpu = count-law cpu (c .layout) (bankingBy o g) w
+    counts picture = count-law picture (c .layout) (bankingBy o g) w
 
-    in-range : (s : Side) (n : ℕ) → entryInRange (c .layout) (getD (table s (boardOf c g t r a)) n unmapped) ≡ true
-    in-range cpu n = entries-law cpu (c .layout) (bankingOf c g) (ok .limits) n
-    in-range picture n = entries-law picture (c .layout) (bankingOf c g) (ok .limits) n
+    in-range : (s : Side) (n : ℕ) → entryInRange (c .layout) (getD (table s (boardOf c o g t r a)) n unmapped) ≡ true
+    in-range cpu n = entries-law cpu (c .layout) (bankingBy o g) (ok .limits) n
+    in-range picture n = entries-law picture (c .layout) (bankingBy o g) (ok .limits) n
 
 pub tables-law : TablesLaw
 tables-law c h ks =
     let w = whole c h ks in
     let l = ledgerOf c ks in
     subst (λ (x : State). Tables (x .board)) (sym (w .state))
-    (tables c (accepted c h) (l .registers) (l .timing) (w .count) (w .audio) (well-formed c (l .registers) (w .lasts .eight)))
+    (tables c (accepted c h) (l .origin) (l .registers) (l .timing) (w .count) (w .audio) (well-formed (l .origin) (l .registers) (w .lasts .eight)))

@@ -1,5 +1,5 @@
 -- The ticks of a stretch, foreseen from the ledger alone. Assumes nothing.
-use mathlib.Core.Path.{_≡_, refl, sym, ap, ap₂, _∙_}
+use mathlib.Core.Path.{_≡_, refl, sym, ap, ap₂, _∙_, subst}
 use mathlib.Core.Bool.{Bool, true, false, cond}
 use mathlib.Core.List.{List, [], _∷_, map}
 use Prim.Native.Nat.{ℕ, zero, suc, _+_, _-_, _≤_}
@@ -20,7 +20,7 @@ use Rattle.vrc_irq.proofs.Board.{pace}
 use Rattle.calls.specs.declared.Call.{Call}
 use Rattle.vrc6.specs.Boards.{Creation}
 use Rattle.calls.specs.Lists.{Given, ticksIn}
-use Rattle.ledger.specs.Ledger.{Ledger, Timing, Event, cpuWrites, pictureWrites, clocks, resets, looks, event, ledger, noted, timingAfter, timingClocked, fallen}
+use Rattle.ledger.specs.Ledger.{Ledger, Origin, Timing, Event, cpuWrites, pictureWrites, clocks, resets, looks, event, ledger, noted, timingAfter, timingClocked, fallen}
 use Rattle.ledger.specs.Foreseen.{clockTicks, ticksNoted, foreseen}
 use Rattle.ledger.specs.Demand3.{part, weight, clockCount, tickCount, QuietRegister, Quiet, CountsLines, stretchTicks}
 
@@ -84,16 +84,24 @@ still (OfIrq Control) v t q = absurd q
 still (OfIrq Acknowledge) v t q = absurd q
 
 module _ (c : Creation) where
-  weighed : (e : Event) (l : Ledger) → Quiet c e → CountsLines (l .timing) → Weighed (l .timing) (noted c l e .timing) e
+  weighed : (e : Event) (l : Ledger) → Quiet (l .origin) e → CountsLines (l .timing) → Weighed (l .timing) (noted c l e .timing) e
   weighed (cpuWrites a v) l q h =
-      none (l .timing) (noted c l (cpuWrites a v) .timing) (cpuWrites a v) refl refl (still (decode (isB (c .revision)) a) v (l .timing) q) h
+      none (l .timing) (noted c l (cpuWrites a v) .timing) (cpuWrites a v) refl refl (still (decode (isB (l .origin .revision)) a) v (l .timing) q) h
   weighed (pictureWrites a v) l q h = none (l .timing) (l .timing) (pictureWrites a v) refl refl refl h
   weighed (clocks n) l q h = many n (l .timing) h
   weighed resets l q h = absurd q
   weighed looks l q h = none (l .timing) (l .timing) looks refl refl refl h
 
+  -- and it leaves what the board was made with
+  made : (e : Event) (l : Ledger) → Quiet (l .origin) e → l .origin ≡ noted c l e .origin
+  made (cpuWrites a v) l q = refl
+  made (pictureWrites a v) l q = refl
+  made (clocks n) l q = refl
+  made resets l q = absurd q
+  made looks l q = refl
+
   -- the call's clocks and those behind it, added up
-  pub counted : (ks : List Call) (l : Ledger) → Each (λ k. Quiet c (event k)) ks → CountsLines (l .timing)
+  pub counted : (ks : List Call) (l : Ledger) → Each (λ k. Quiet (l .origin) (event k)) ks → CountsLines (l .timing)
       → total (foreseen c l ks) ≡ runs step line (l .timing .prescaler) (clockCount ks)
   unfolding count
   counted [] l q h = refl
@@ -102,7 +110,8 @@ module _ (c : Creation) where
       let p = l .timing .prescaler in
       let w = weighed e l (q .0) h in
       let low : 1 ≤ noted c l e .timing .prescaler = rw (w .rest) (range-law step line pace p (weight e) .above (h .low)) in
-      let more = counted ks (noted c l e) (q .1) (record { enabled = w .enabled; lines = w .lines; low = low }) in
+      let quiet = subst (λ (o : Origin). Each (λ j. Quiet o (event j)) ks) (made e l (q .0)) (q .1) in
+      let more = counted ks (noted c l e) quiet (record { enabled = w .enabled; lines = w .lines; low = low }) in
       let added = add-law step line p (weight e) (clockCount ks) .counted in
       let behind = ap (λ (n : ℕ). runs step line n (clockCount ks)) (w .rest) in
       omega (arith, w .reported)
@@ -141,7 +150,7 @@ map-drop (suc m) [] = refl
 map-drop (suc m) (a ∷ gs) = map-drop m gs
 
 pub counted-part : (c : Creation) (ks : List Call) (l : Ledger) (gs : List Given) → map ticksIn gs ≡ foreseen c l ks
-    → (i n : ℕ) → Each (λ k. Quiet c (event k)) (part i n ks) → CountsLines (ledger c l (take i ks) .timing)
+    → (i n : ℕ) → Each (λ k. Quiet (ledger c l (take i ks) .origin) (event k)) (part i n ks) → CountsLines (ledger c l (take i ks) .timing)
     → tickCount (part i n gs) ≡ stretchTicks (clockCount (part i n ks)) (ledger c l (take i ks) .timing .prescaler)
 counted-part c ks l gs e i n q h =
     let p = ledger c l (take i ks) .timing .prescaler in

@@ -37,7 +37,7 @@ module _ (c : Creation) (ok : Accepted c) where
       let e = event call in
       let fine = none-refused c ok l r x k call in
       let step = stepped c l r x call (k .eight) fine in
-      let more = ran ks (noted c l e) (countNext c l r e) (audioNext c x e) (kept c ok l x e k) in
+      let more = ran ks (noted c l e) (countNext l r e) (audioNext (l .origin) x e) (kept c ok l x e k) in
       record {
         count = more .count;
         audio = more .audio;
@@ -57,7 +57,7 @@ module _ (c : Creation) (ok : Accepted c) where
   effects (call ∷ ks) l r x k =
       let e = event call in
       ap (λ (y : State). after y ks) (stepped c l r x call (k .eight) (none-refused c ok l r x k call))
-      ∙ effects ks (noted c l e) (countNext c l r e) (audioNext c x e) (kept c ok l x e k)
+      ∙ effects ks (noted c l e) (countNext l r e) (audioNext (l .origin) x e) (kept c ok l x e k)
       ∙ ap (λ (y : State). played y ks) (sym (led c l r x e (k .eight)))
 
   first : createRefusal c ≡ 0 → shown c (opening c) (countOf irqZero) (audioAt 1) ≡ start c
@@ -105,6 +105,6 @@ demand3 c h ks =
     w : After c (opening c) ks (after (start c) ks) (answers (start c) ks)
     w = whole c h ks
 
-    pages : (s : Side) → table s (after (start c) ks .board) ≡ entries s c (ledgerOf c ks .registers)
+    pages : (s : Side) → table s (after (start c) ks .board) ≡ entries s c (ledgerOf c ks)
     pages cpu = ap (λ (x : State). x .board .«prg_pages») (w .state)
     pages picture = ap (λ (x : State). x .board .«chr_pages») (w .state)

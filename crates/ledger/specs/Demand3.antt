@@ -19,7 +19,7 @@ use Rattle.calls.specs.declared.Call.{Call}
 use Rattle.vrc6.specs.Boards.{State, heldBy, Creation, table}
 use Rattle.vrc6.specs.Calls.{create}
 use Rattle.calls.specs.Lists.{Given, refusalIn, ticksIn, after, answers}
-use Rattle.ledger.specs.Ledger.{Timing, Event, cpuWrites, pictureWrites, clocks, resets, looks, event, ledgerOf, bankingOf, entries}
+use Rattle.ledger.specs.Ledger.{Origin, Timing, Event, cpuWrites, pictureWrites, clocks, resets, looks, event, ledgerOf, bankingOf, entries}
 
 -- n neighbours, from the i-th on
 abbrev pub part : {A : Type 0} → (i n : ℕ) → List A → List A
@@ -54,12 +54,12 @@ QuietRegister (OfIrq Control) = ⊥
 QuietRegister (OfIrq Acknowledge) = ⊥
 
 -- a call that is no control, acknowledge or reset
-abbrev pub Quiet : Creation → Event → Type 0
-Quiet c (cpuWrites a v) = QuietRegister (decode (isB (c .revision)) a)
-Quiet c (pictureWrites a v) = Unit {0}
-Quiet c (clocks n) = Unit {0}
-Quiet c resets = ⊥
-Quiet c looks = Unit {0}
+abbrev pub Quiet : Origin → Event → Type 0
+Quiet o (cpuWrites a v) = QuietRegister (decode (isB (o .revision)) a)
+Quiet o (pictureWrites a v) = Unit {0}
+Quiet o (clocks n) = Unit {0}
+Quiet o resets = ⊥
+Quiet o looks = Unit {0}
 
 -- enabled and not in cycle mode, the prescaler 1 or more; that it is at most 341 is claimed below, and need not be asked for
 pub record CountsLines (t : Timing) : Type 0 where
@@ -69,7 +69,7 @@ pub record CountsLines (t : Timing) : Type 0 where
 
 -- the n calls from the i-th on are a stretch: none is control, acknowledge or reset, and the ledger counts lines as it begins (01)
 pub record Stretch (c : Creation) (ks : List Call) (i n : ℕ) : Type 0 where
-  pub quiet : Each (λ k. Quiet c (event k)) (part i n ks)
+  pub quiet : Each (λ k. Quiet (ledgerOf c (take i ks) .origin) (event k)) (part i n ks)
   pub begun : CountsLines (ledgerOf c (take i ks) .timing)
 
 -- ticks of c clocks from prescaler p: (3 c + 341 - p) / 341, rounded down (00, demand 3)
@@ -103,9 +103,9 @@ pub record Claim (c : Creation) (ks : List Call) : Type 0 where
   -- the layout is creation's
   pub layout : after (start c) ks .board .layout ≡ c .layout
   -- every page entry, of the CPU's and of the picture side's, is the ledger's
-  pub pages : (s : Side) → table s (after (start c) ks .board) ≡ entries s c (ledgerOf c ks .registers)
+  pub pages : (s : Side) → table s (after (start c) ks .board) ≡ entries s c (ledgerOf c ks)
   -- and so are mode, PRG and CHR numbers, mirroring, nametable numbers and revision
-  pub banking : after (start c) ks .board .banking ≡ bankingOf c (ledgerOf c ks .registers)
+  pub banking : after (start c) ks .board .banking ≡ bankingOf (ledgerOf c ks)
   -- the four interrupt values are the ledger's
   pub timing : timingOf (after (start c) ks .board .irq) ≡ ledgerOf c ks .timing
   -- where the prescaler never leaves 0 to 341

@@ -18,7 +18,7 @@ use Rattle.decode.specs.Decode.{decode}
 use Rattle.banks.specs.Banking.{isB}
 use Rattle.calls.specs.declared.Call.{Call}
 use Rattle.vrc6.specs.Boards.{Creation}
-use Rattle.ledger.specs.Ledger.{Ledger, Registers, Event, cpuWrites, pictureWrites, clocks, resets, looks, event, noted, opening, entries, ledgerOf}
+use Rattle.ledger.specs.Ledger.{Ledger, Origin, Registers, Event, cpuWrites, pictureWrites, clocks, resets, looks, event, noted, opening, entries, ledgerOf}
 
 -- the later byte, or the earlier where there is none
 abbrev pub orElse : (later earlier : Option ℕ) → Option ℕ
@@ -72,21 +72,21 @@ givenTo b (OfAudio r) v = none
 givenTo b (OfIrq r) v = none
 
 -- the byte that a call writes to it
-abbrev pub writtenTo : Creation → (b : BankRegister) → Event → Option ℕ
-writtenTo c b (cpuWrites a v) = givenTo b (decode (isB (c .revision)) a) v
-writtenTo c b (pictureWrites a v) = none
-writtenTo c b (clocks n) = none
-writtenTo c b resets = none
-writtenTo c b looks = none
+abbrev pub writtenTo : Origin → (b : BankRegister) → Event → Option ℕ
+writtenTo o b (cpuWrites a v) = givenTo b (decode (isB (o .revision)) a) v
+writtenTo o b (pictureWrites a v) = none
+writtenTo o b (clocks n) = none
+writtenTo o b resets = none
+writtenTo o b looks = none
 
 -- the last byte that a list writes to it, or none
-abbrev pub lastTo : Creation → (b : BankRegister) → List Call → Option ℕ
-lastTo c b [] = none
-lastTo c b (k ∷ ks) = orElse (lastTo c b ks) (writtenTo c b (event k))
+abbrev pub lastTo : Creation → Ledger → (b : BankRegister) → List Call → Option ℕ
+lastTo c l b [] = none
+lastTo c l b (k ∷ ks) = orElse (lastTo c (noted c l (event k)) b ks) (writtenTo (l .origin) b (event k))
 
 -- of every creation, every list and each of the eleven: the ledger holds the last byte written to it, or none
 abbrev pub RegistersLaw : Type 0
-RegistersLaw = (c : Creation) (ks : List Call) (b : BankRegister) → Eleven b → held (ledgerOf c ks .registers) b ≡ lastTo c b ks
+RegistersLaw = (c : Creation) (ks : List Call) (b : BankRegister) → Eleven b → held (ledgerOf c ks .registers) b ≡ lastTo c (opening c) b ks
 
 -- ---- the bytes of the changing buffer
 -- the byte that a write of v to an address stores at place i of the changing buffer: where the address's page is writable and shows it there
@@ -95,8 +95,8 @@ storedThrough e fixed address v i = cond (writable e && eqb (offset e - fixed + 
 
 -- the byte that a call stores there, by the entry of its address as it then is
 abbrev pub storedBy : Creation → Ledger → Event → (i : ℕ) → Option ℕ
-storedBy c l (cpuWrites a v) i = storedThrough (entryFor cpu (entries cpu c (l .registers)) a) (length (c .fixed)) a v i
-storedBy c l (pictureWrites a v) i = storedThrough (entryFor picture (entries picture c (l .registers)) a) (length (c .fixed)) a v i
+storedBy c l (cpuWrites a v) i = storedThrough (entryFor cpu (entries cpu c l) a) (length (c .fixed)) a v i
+storedBy c l (pictureWrites a v) i = storedThrough (entryFor picture (entries picture c l) a) (length (c .fixed)) a v i
 storedBy c l (clocks n) i = none
 storedBy c l resets i = none
 storedBy c l looks i = none

@@ -66,7 +66,7 @@ Plain picture address = Unit {0}
 abbrev pub ReadBackLaw : Type 0
 ReadBackLaw =
     (c : Creation) → create c .refusal ≡ 0 → (ks : List Call) (s : Side) (address byte : ℕ) → Plain s address
-    → writable (entryFor s (entries s c (ledgerOf c ks .registers)) address) ≡ true
+    → writable (entryFor s (entries s c (ledgerOf c ks)) address) ≡ true
     → byteRead s (next (after (start c) ks) (writeOf s address byte)) address .byte ≡ byte
 
 -- ---- a view

@@ -19,6 +19,8 @@ use Rattle.decode.specs.declared.BankRegister.the-variants.{Prg16, Prg8, Mode, 
 use Rattle.decode.specs.declared.IrqRegister.{IrqRegister}
 use Rattle.decode.specs.declared.IrqRegister.the-variants.{Reload, Control, Acknowledge}
 use Rattle.decode.specs.Decode.{decode}
+use Rattle.slots.specs.declared.Mirroring.{Mirroring}
+use Rattle.banks.specs.declared.banking.Revision.{Revision}
 use Rattle.banks.specs.declared.banking.Banking.{Banking}
 use Rattle.banks.specs.Banking.{mirroringNumber, isB}
 use Rattle.slots.specs.Nametables.{mirroringNumbers, nametableNumbers, nametableMirroring}
@@ -42,8 +44,14 @@ pub record Timing : Type 0 where
   pub cycle : Bool
   pub prescaler : ℕ
 
--- the ledger: registers, a copy of the changing buffer, interrupt values (01)
+-- what the board was made with: the mirroring that stands until a register says another, and the revision that decodes (01)
+pub record Origin : Type 0 where
+  pub mirroring : Mirroring
+  pub revision : Revision
+
+-- the ledger: what the board was made with, registers, a copy of the changing buffer, interrupt values (01)
 pub record Ledger : Type 0 where
+  pub origin : Origin
   pub registers : Registers
   pub copy : List ℕ
   pub timing : Timing
@@ -52,10 +60,11 @@ pub record Ledger : Type 0 where
 abbrev pub noTiming : Timing
 noTiming = record { after-acknowledge = false; enabled = false; cycle = false; prescaler = 0 }
 
--- at creation: every register has none, and the copy is the changing buffer as supplied (01)
+-- at creation: mirroring and revision as given, every register has none, and the copy is the changing buffer as supplied (01)
 abbrev pub opening : Creation → Ledger
 opening c =
     record {
+      origin = record { mirroring = c .mirroring; revision = c .revision };
       registers = record { prg16 = none; prg8 = none; mode = none; chr = replicate 8 none };
       copy = c .changing;
       timing = noTiming;
@@ -81,22 +90,26 @@ anyHas (o ∷ os) = has o || anyHas os
 abbrev pub settled : Registers → Bool
 settled r = has (r .mode) || anyHas (r .chr)
 
--- the banking values that follow from creation and the registers: the mode, the PRG numbers AND $0F and AND $1F, the CHR bytes, mirroring
--- and nametable numbers by 01's table or as creation has them, the revision (01, Banks and decode)
-abbrev pub bankingOf : Creation → Registers → Banking
-bankingOf c r =
+-- the banking values that follow from what the board was made with and the registers: the mode, the PRG numbers AND $0F and AND $1F, the CHR
+-- bytes, mirroring and nametable numbers by 01's table or as the board was made with, the revision (01, Banks and decode)
+abbrev pub bankingBy : Origin → Registers → Banking
+bankingBy o r =
     record {
       «banking_mode» = byteOf (r .mode);
       «prg_banks» = byteOf (r .prg16) % 16 ∷ byteOf (r .prg8) % 32 ∷ [];
       chr = map byteOf (r .chr);
-      mirroring = mirroringNumber (cond (settled r) (nametableMirroring (byteOf (r .mode))) (c .mirroring));
-      «nt_banks» = cond (settled r) (nametableNumbers (byteOf (r .mode)) (map byteOf (r .chr))) (mirroringNumbers (c .mirroring));
-      revision = isB (c .revision);
+      mirroring = mirroringNumber (cond (settled r) (nametableMirroring (byteOf (r .mode))) (o .mirroring));
+      «nt_banks» = cond (settled r) (nametableNumbers (byteOf (r .mode)) (map byteOf (r .chr))) (mirroringNumbers (o .mirroring));
+      revision = isB (o .revision);
     }
 
+-- the same of the ledger
+abbrev pub bankingOf : Ledger → Banking
+bankingOf l = bankingBy (l .origin) (l .registers)
+
 -- its page entries, by the rules of Paging and Banks (01: "by the rules above")
-abbrev pub entries : Side → Creation → Registers → List Page
-entries s c r = tableOf s (c .layout) (bankingOf c r)
+abbrev pub entries : Side → Creation → Ledger → List Page
+entries s c l = tableOf s (c .layout) (bankingOf l)
 
 -- ---- what a call is to it
 -- a call's name and arguments, board and buffers left out (01); clocks are as many as the call is
@@ -172,19 +185,21 @@ copiedAt e fixed address byte copy = cond (writable e) (set copy (offset e - fix
 -- the same by the ledger's own entry for the address
 abbrev pub copied : Side → Creation → Ledger → (address byte : ℕ) → List ℕ
 copied s c l address byte =
-    copiedAt (entryFor s (entries s c (l .registers)) address) (length (c .fixed)) address byte (l .copy)
+    copiedAt (entryFor s (entries s c l) address) (length (c .fixed)) address byte (l .copy)
 
--- the ledger after one call: a CPU write is decoded as the board decodes it (01)
+-- the ledger after one call: a CPU write is decoded as the board decodes it (01); of creation it takes the layout and the fixed buffer's
+-- length alone
 abbrev pub noted : Creation → Ledger → Event → Ledger
 noted c l (cpuWrites a v) =
     record {
-      registers = registersAfter (decode (isB (c .revision)) a) v (l .registers);
+      origin = l .origin;
+      registers = registersAfter (decode (isB (l .origin .revision)) a) v (l .registers);
       copy = copied cpu c l a v;
-      timing = timingAfter (decode (isB (c .revision)) a) v (l .timing);
+      timing = timingAfter (decode (isB (l .origin .revision)) a) v (l .timing);
     }
-noted c l (pictureWrites a v) = record { registers = l .registers; copy = copied picture c l a v; timing = l .timing }
-noted c l (clocks n) = record { registers = l .registers; copy = l .copy; timing = times n timingClocked (l .timing) }
-noted c l resets = record { registers = l .registers; copy = l .copy; timing = noTiming }
+noted c l (pictureWrites a v) = record { origin = l .origin; registers = l .registers; copy = copied picture c l a v; timing = l .timing }
+noted c l (clocks n) = record { origin = l .origin; registers = l .registers; copy = l .copy; timing = times n timingClocked (l .timing) }
+noted c l resets = record { origin = l .origin; registers = l .registers; copy = l .copy; timing = noTiming }
 noted c l looks = l
 
 -- the ledger after a list of calls
