@@ -3,7 +3,7 @@
 use mathlib.Core.List.{List, [], _∷_}
 use Prim.Native.Nat.{ℕ}
 use Rattle.basics.specs.Rows.{flag}
-use Rattle.paging.specs.Paging.{cpu, picture}
+use Rattle.paging.specs.Paging.{Side, cpu, picture}
 use Rattle.audio.specs.Levels.{levelRefusal}
 use Rattle.vrc6.specs.declared.board.Board.{Board}
 use Rattle.vrc6.specs.declared.board.ByteRead.{ByteRead}
@@ -21,6 +21,34 @@ use Rattle.calls.specs.declared.Stepped.{Stepped}
 use Rattle.vrc6.specs.Boards.{State, heldBy}
 use Rattle.vrc6.specs.Calls.{byteRead, cpuWrite, cpuWriteLeft, pictureWrite, pictureWriteLeft, clock, reset, level, forecast, pageView, pageViewRefusal}
 
+-- ---- kinds of calls
+-- what asks interrupt and sound alone
+pub data Ask : Type 0 where
+  clocking resetting leveling forecasting : Ask
+
+-- what a call is, in either form, by value or lent: a read or a write of one side, a view, or one that asks interrupt and sound alone
+pub data Shape : Type 0 where
+  reads : Side → (address : ℕ) → Shape
+  writes : Side → (address byte : ℕ) → Shape
+  views : (address : ℕ) → Shape
+  asks : Ask → Shape
+
+-- the kind of each call: clock and CPU write alike in both forms, and the resets
+abbrev pub shape : Call → Shape
+shape (CpuRead a) = reads cpu a
+shape (CpuWrite a v) = writes cpu a v
+shape (LentCpuWrite a v) = writes cpu a v
+shape (PictureRead a) = reads picture a
+shape (PictureWrite a v) = writes picture a v
+shape Clock = asks clocking
+shape LentClock = asks clocking
+shape SoftReset = asks resetting
+shape HardReset = asks resetting
+shape ReadLevel = asks leveling
+shape (PageView a) = views a
+shape ReadForecast = asks forecasting
+
+-- ---- what a call gives
 -- a call's whole answer, as its contract has it; page view's bytes with the number of the call beside it
 pub data Given : Type 0 where
   ofRead : ByteRead → Given
@@ -30,35 +58,36 @@ pub data Given : Type 0 where
   ofForecast : Forecasted → Given
   ofView : (bytes : List ℕ) (refusal : ℕ) → Given
 
--- the answer that the call's contract names; clock and CPU write answer alike in both forms
-abbrev pub given : State → Call → Given
-given x (CpuRead a) = ofRead (byteRead cpu x a)
-given x (CpuWrite a v) = ofWrite (cpuWrite x a v)
-given x (LentCpuWrite a v) = ofWrite (cpuWrite x a v)
-given x (PictureRead a) = ofRead (byteRead picture x a)
-given x (PictureWrite a v) = ofWrite (pictureWrite x a v)
-given x Clock = ofClock (clock (x .board))
-given x LentClock = ofClock (clock (x .board))
-given x SoftReset = ofWrite (reset (x .board))
-given x HardReset = ofWrite (reset (x .board))
-given x ReadLevel = ofLevel (level (x .board))
-given x (PageView a) = ofView (pageView x a) (pageViewRefusal x a)
-given x ReadForecast = ofForecast (forecast (x .board))
+-- of interrupt and sound
+abbrev pub told : Board → Ask → Given
+told b clocking = ofClock (clock b)
+told b resetting = ofWrite (reset b)
+told b leveling = ofLevel (level b)
+told b forecasting = ofForecast (forecast b)
 
--- the changing buffer after a call
+-- of each kind
+abbrev pub givenBy : State → Shape → Given
+givenBy x (reads s a) = ofRead (byteRead s x a)
+givenBy x (writes cpu a v) = ofWrite (cpuWrite x a v)
+givenBy x (writes picture a v) = ofWrite (pictureWrite x a v)
+givenBy x (views a) = ofView (pageView x a) (pageViewRefusal x a)
+givenBy x (asks q) = told (x .board) q
+
+-- the answer that the call's contract names
+abbrev pub given : State → Call → Given
+given x k = givenBy x (shape k)
+
+-- the changing buffer after a call of each kind
+abbrev pub changingBy : State → Shape → List ℕ
+changingBy x (reads s a) = x .changing
+changingBy x (writes cpu a v) = cpuWriteLeft x a v .changing
+changingBy x (writes picture a v) = pictureWriteLeft x a v .changing
+changingBy x (views a) = x .changing
+changingBy x (asks q) = x .changing
+
+-- after a call
 abbrev pub changingAfter : State → Call → List ℕ
-changingAfter x (CpuRead a) = x .changing
-changingAfter x (CpuWrite a v) = cpuWriteLeft x a v .changing
-changingAfter x (LentCpuWrite a v) = cpuWriteLeft x a v .changing
-changingAfter x (PictureRead a) = x .changing
-changingAfter x (PictureWrite a v) = pictureWriteLeft x a v .changing
-changingAfter x Clock = x .changing
-changingAfter x LentClock = x .changing
-changingAfter x SoftReset = x .changing
-changingAfter x HardReset = x .changing
-changingAfter x ReadLevel = x .changing
-changingAfter x (PageView a) = x .changing
-changingAfter x ReadForecast = x .changing
+changingAfter x k = changingBy x (shape k)
 
 -- ---- what an answer says
 -- the board that it hands back; a view hands none back, and leaves the board where it was
@@ -108,9 +137,13 @@ abbrev pub step : State → Call → Stepped
 step x k = record { board = boardIn (x .board) (given x k); answer = said (given x k) }
 
 -- ---- the list
+-- board and buffers after a call of a kind
+abbrev pub nextBy : State → Shape → State
+nextBy x s = heldBy (boardIn (x .board) (givenBy x s)) (x .fixed) (changingBy x s)
+
 -- each call gets what the last one left
 abbrev pub next : State → Call → State
-next x k = heldBy (boardIn (x .board) (given x k)) (x .fixed) (changingAfter x k)
+next x k = nextBy x (shape k)
 
 -- board and buffers after the list
 abbrev pub after : State → List Call → State

@@ -33,15 +33,14 @@ use Rattle.audio.specs.declared.Audio.{Audio}
 use Rattle.audio.specs.Sound.{audioAt, audioWritten, audioClocked}
 use Rattle.audio.specs.Laws.{InRange, levels}
 use Rattle.audio.proofs.Kept.{kept-law, sum-law}
-use Rattle.calls.specs.declared.Call.{Call}
-use Rattle.calls.specs.declared.Call.the-variants.{CpuRead, CpuWrite, LentCpuWrite, PictureRead, PictureWrite, Clock, LentClock, SoftReset, HardReset, ReadLevel, PageView, ReadForecast}
+use Rattle.calls.specs.Lists.{Shape, reads, writes, views, asks}
 use Rattle.vrc6.specs.Boards.{Creation, entryOf}
 use Rattle.vrc6.specs.Checks.{createRefusal, engineInRange, memoryRefusal, registerChecks}
 use Rattle.ledger.specs.Ledger.{Ledger, Origin, Registers, Timing, Event, cpuWrites, pictureWrites, clocks, resets, looks, noted, opening, byteOf, settled, bankingBy, bankingOf, entries, registersAfter, timingAfter, timingClocked, copied}
 use Rattle.ledger.specs.Demand3.{WholeSum}
 use Rattle.ledger.specs.Refused.{memoryChecks, createChecks}
 use Rattle.ledger.proofs.Ticks.{same-fall}
-use Rattle.ledger.proofs.Shown.{Count, shown, refusalOf, audioAfter, audioNext, or-true}
+use Rattle.ledger.proofs.Shown.{Count, shown, refusalBy, audioAfter, audioNext, or-true}
 
 -- ---- what an accepted creation says
 pub record Accepted (c : Creation) : Type 0 where
@@ -164,19 +163,12 @@ module _ (c : Creation) (ok : Accepted c) where
     write : (a : ℕ) → memoryRefusal cpu (shown c l r x) a (registerChecks (shown c l r x .board) a) ≡ 0
     write a = memory cpu a (registerChecks (shown c l r x .board) a) (rw (banks (l .origin) (l .registers), engine) (or-true (ltb a 0x8000)))
 
-    pub none-refused : (call : Call) → refusalOf (shown c l r x) call ≡ 0
-    none-refused (CpuRead a) = memory cpu a true refl
-    none-refused (CpuWrite a v) = write a
-    none-refused (LentCpuWrite a v) = write a
-    none-refused (PictureRead a) = memory picture a true refl
-    none-refused (PictureWrite a v) = memory picture a true refl
-    none-refused Clock = rw engine
-    none-refused LentClock = rw engine
-    none-refused SoftReset = rw engine
-    none-refused HardReset = rw engine
-    none-refused ReadLevel = rw engine
-    none-refused (PageView a) = memory picture a true refl
-    none-refused ReadForecast = rw engine
+    pub none-refused : (s : Shape) → refusalBy (shown c l r x) s ≡ 0
+    none-refused (reads s a) = memory s a true refl
+    none-refused (writes cpu a v) = write a
+    none-refused (writes picture a v) = memory picture a true refl
+    none-refused (views a) = memory picture a true refl
+    none-refused (asks q) = rw engine
 
   -- ---- the next call
   pub kept : (l : Ledger) (x : Audio) (e : Event) → Kept c l x → Kept c (noted c l e) (audioNext (l .origin) x e)

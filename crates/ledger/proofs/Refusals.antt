@@ -8,7 +8,7 @@ use Rattle.basics.specs.Rows.{flag}
 use Rattle.basics.specs.Numbered.{ownNumbers}
 use Rattle.basics.proofs.Tests.{unless-refused}
 use Rattle.basics.proofs.Numbers.{numbered-law}
-use Rattle.paging.specs.Paging.{cpu, picture}
+use Rattle.paging.specs.Paging.{Side, cpu, picture}
 use Rattle.audio.specs.declared.Level.the-variants.{Refused as NoLevel}
 use Rattle.audio.specs.Levels.{levelOf, levelIn}
 use Rattle.vrc_irq.specs.Board.{clockAnswer, forecastAnswer}
@@ -16,14 +16,12 @@ use Rattle.vrc6.specs.declared.board.Board.{Board}
 use Rattle.vrc6.specs.declared.board.ByteRead.{ByteRead}
 use Rattle.vrc6.specs.declared.board.Written.{Written}
 use Rattle.engine.specs.declared.answers.Forecast.the-variants.{Refused}
-use Rattle.calls.specs.declared.Call.{Call}
-use Rattle.calls.specs.declared.Call.the-variants.{CpuRead, CpuWrite, LentCpuWrite, PictureRead, PictureWrite, Clock, LentClock, SoftReset, HardReset, ReadLevel, PageView, ReadForecast}
 use Rattle.vrc6.specs.Boards.{State, heldBy, newBoard, zeroBoard}
 use Rattle.vrc6.specs.Checks.{createRefusal, memoryRefusal, engineRefusal, cpuWriteRefusal}
 use Rattle.engine.specs.Engine.{forecastOf}
 use Rattle.vrc6.specs.Calls.{byteRead, cpuWrite, pictureWrite, reset}
-use Rattle.calls.specs.Lists.{ofRead, ofWrite, given, refusalIn, next}
-use Rattle.ledger.specs.Refused.{forecastTold, GivenBack, RefusedLaw, RefusedCreateLaw, checks, createChecks, OrderLaw}
+use Rattle.calls.specs.Lists.{Ask, clocking, resetting, leveling, forecasting, Shape, reads, writes, views, asks, shape, ofRead, ofWrite, given, givenBy, refusalIn, nextBy}
+use Rattle.ledger.specs.Refused.{forecastTold, GivenBack, RefusedLaw, RefusedCreateLaw, checks, checksBy, createChecks, OrderLaw}
 use Rattle.ledger.proofs.Shown.{answered}
 
 -- a number that is not 0
@@ -46,66 +44,58 @@ module _ (x : State) where
   of-write : (r : Written) (y : State) → y ≡ x → GivenBack x (ofWrite r) y
   of-write r y e = record { state = e; byte = refl; view = refl; tick = refl; level = refl; forecast = refl }
 
-  of-clock : (engineRefusal (x .board) ≡ 0 → ⊥) → GivenBack x (given x Clock) (next x Clock)
+  of-clock : (engineRefusal (x .board) ≡ 0 → ⊥) → GivenBack x (givenBy x (asks clocking)) (nextBy x (asks clocking))
   of-clock h =
       let n = engineRefusal (x .board) in
       record { state = board-back n _ h; byte = refl; view = refl; tick = ap flag (back n (clockAnswer (x .board .irq) .ticked) false h); level = refl; forecast = refl }
 
-  of-level : (engineRefusal (x .board) ≡ 0 → ⊥) → GivenBack x (given x ReadLevel) x
+  of-level : (engineRefusal (x .board) ≡ 0 → ⊥) → GivenBack x (givenBy x (asks leveling)) x
   of-level h =
       let n = engineRefusal (x .board) in
       let none = ap levelIn (back n (levelOf (x .board .audio)) (NoLevel n) h) in
       record { state = refl; byte = refl; view = refl; tick = refl; level = none; forecast = refl }
 
-  of-forecast : (engineRefusal (x .board) ≡ 0 → ⊥) → GivenBack x (given x ReadForecast) x
+  of-forecast : (engineRefusal (x .board) ≡ 0 → ⊥) → GivenBack x (givenBy x (asks forecasting)) x
   of-forecast h =
       let n = engineRefusal (x .board) in
       let none = ap forecastTold (back n (forecastOf (forecastAnswer (x .board .irq))) (Refused n) h) in
       record { state = refl; byte = refl; view = refl; tick = refl; level = refl; forecast = none }
 
-  of-view : (a : ℕ) → (memoryRefusal picture x a true ≡ 0 → ⊥) → GivenBack x (given x (PageView a)) x
+  of-view : (a : ℕ) → (memoryRefusal picture x a true ≡ 0 → ⊥) → GivenBack x (givenBy x (views a)) x
   of-view a h =
       record { state = refl; byte = refl; view = back (memoryRefusal picture x a true) _ [] h; tick = refl; level = refl; forecast = refl }
 
-  given-back : (k : Call) → (firstFailing (checks x k) ≡ 0 → ⊥) → GivenBack x (given x k) (next x k)
-  given-back (CpuRead a) h = of-read (memoryRefusal cpu x a true) _ (byteRead cpu x a) refl h
-  given-back (CpuWrite a v) h = of-write (cpuWrite x a v) _ (state-back (cpuWriteRefusal x a) _ h)
-  given-back (LentCpuWrite a v) h = of-write (cpuWrite x a v) _ (state-back (cpuWriteRefusal x a) _ h)
-  given-back (PictureRead a) h = of-read (memoryRefusal picture x a true) _ (byteRead picture x a) refl h
-  given-back (PictureWrite a v) h = of-write (pictureWrite x a v) _ (state-back (memoryRefusal picture x a true) _ h)
-  given-back Clock h = of-clock h
-  given-back LentClock h = of-clock h
-  given-back SoftReset h = of-write (reset (x .board)) _ (board-back (engineRefusal (x .board)) _ h)
-  given-back HardReset h = of-write (reset (x .board)) _ (board-back (engineRefusal (x .board)) _ h)
-  given-back ReadLevel h = of-level h
-  given-back (PageView a) h = of-view a h
-  given-back ReadForecast h = of-forecast h
+  of-ask : (q : Ask) → (engineRefusal (x .board) ≡ 0 → ⊥) → GivenBack x (givenBy x (asks q)) (nextBy x (asks q))
+  of-ask clocking h = of-clock h
+  of-ask resetting h = of-write (reset (x .board)) _ (board-back (engineRefusal (x .board)) _ h)
+  of-ask leveling h = of-level h
+  of-ask forecasting h = of-forecast h
+
+  given-back : (s : Shape) → (firstFailing (checksBy x s) ≡ 0 → ⊥) → GivenBack x (givenBy x s) (nextBy x s)
+  given-back (reads s a) h = of-read (memoryRefusal s x a true) _ (byteRead s x a) refl h
+  given-back (writes cpu a v) h = of-write (cpuWrite x a v) _ (state-back (cpuWriteRefusal x a) _ h)
+  given-back (writes picture a v) h = of-write (pictureWrite x a v) _ (state-back (memoryRefusal picture x a true) _ h)
+  given-back (views a) h = of-view a h
+  given-back (asks q) h = of-ask q h
 
 pub refused-law : RefusedLaw
-refused-law x k h = given-back x k (λ z. h (answered x k ∙ z))
+refused-law x k h = given-back x (shape k) (λ z. h (answered x (shape k) ∙ z))
 
 pub refused-create-law : RefusedCreateLaw
 refused-create-law c h = back (createRefusal c) (newBoard (c .layout) (c .mirroring) (c .revision)) zeroBoard h
 
 -- ---- the order of the numbers
 -- every check has a number of its own, whatever the checks themselves say
-own-numbers : (x : State) (k : Call) → ownNumbers (checks x k) ≡ true
-own-numbers x (CpuRead a) = refl
-own-numbers x (CpuWrite a v) = refl
-own-numbers x (LentCpuWrite a v) = refl
-own-numbers x (PictureRead a) = refl
-own-numbers x (PictureWrite a v) = refl
-own-numbers x Clock = refl
-own-numbers x LentClock = refl
-own-numbers x SoftReset = refl
-own-numbers x HardReset = refl
-own-numbers x ReadLevel = refl
-own-numbers x (PageView a) = refl
-own-numbers x ReadForecast = refl
+own-numbers : (x : State) (s : Shape) → ownNumbers (checksBy x s) ≡ true
+own-numbers x (reads s a) = refl
+own-numbers x (writes cpu a v) = refl
+own-numbers x (writes picture a v) = refl
+own-numbers x (views a) = refl
+own-numbers x (asks q) = refl
 
 pub order-law : OrderLaw
 order-law =
     record {
       create-number = λ c. numbered-law (createChecks c) refl (createRefusal c) refl;
-      call-number = λ x k. numbered-law (checks x k) (own-numbers x k) (refusalIn (given x k)) (answered x k);
+      call-number = λ x k. numbered-law (checks x k) (own-numbers x (shape k)) (refusalIn (given x k)) (answered x (shape k));
     }

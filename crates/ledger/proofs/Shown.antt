@@ -32,15 +32,14 @@ use Rattle.audio.specs.Levels.{levelOf, levelName, levelRefusal, outputOf}
 use Rattle.vrc6.specs.declared.board.Board.{Board}
 use Rattle.engine.specs.declared.answers.Forecast.the-variants.{Refused}
 use Rattle.calls.specs.declared.Call.{Call}
-use Rattle.calls.specs.declared.Call.the-variants.{CpuRead, CpuWrite, LentCpuWrite, PictureRead, PictureWrite, Clock, LentClock, SoftReset, HardReset, ReadLevel, PageView, ReadForecast}
 use Rattle.vrc6.specs.Boards.{State, heldBy, Creation, paged, withEngine}
 use Rattle.vrc6.specs.Checks.{engineRefusal, memoryRefusal, cpuWriteRefusal}
 use Rattle.engine.specs.Engine.{forecastOf}
 use Rattle.engine.specs.Writes.{irqWritten}
 use Rattle.vrc6.specs.Calls.{registerWritten, cpuWritten, pictureWritten, clocked, wasReset}
-use Rattle.calls.specs.Lists.{given, refusalIn, ticksIn, forecastRefusal, next}
-use Rattle.ledger.specs.Ledger.{Ledger, Origin, Registers, Timing, Event, cpuWrites, pictureWrites, clocks, resets, looks, event, noted, byteOf, has, anyHas, bankingBy, taken, registersAfter, timingAfter, timingClocked, copied}
-use Rattle.ledger.specs.Refused.{checks}
+use Rattle.calls.specs.Lists.{Ask, clocking, resetting, leveling, forecasting, Shape, reads, writes, views, asks, shape, told, givenBy, refusalIn, ticksIn, forecastRefusal, nextBy, next}
+use Rattle.ledger.specs.Ledger.{Ledger, Origin, Registers, Timing, Event, cpuWrites, pictureWrites, clocks, resets, looks, asked, eventBy, event, noted, byteOf, has, anyHas, bankingBy, taken, registersAfter, timingAfter, timingClocked, copied}
+use Rattle.ledger.specs.Refused.{checksBy}
 use Rattle.ledger.specs.Played.{done}
 use Rattle.ledger.specs.Foreseen.{clockTicks, ticksNoted}
 use Rattle.ledger.specs.Demand3.{timingOf}
@@ -172,8 +171,11 @@ led c l r x resets e = refl
 led c l r x looks e = refl
 
 -- the number that a call checks
+abbrev pub refusalBy : State → Shape → ℕ
+refusalBy x s = firstFailing (checksBy x s)
+
 abbrev pub refusalOf : State → Call → ℕ
-refusalOf x k = firstFailing (checks x k)
+refusalOf x k = refusalBy x (shape k)
 
 -- a state where the call's number is n, and it is 0
 left-by : (x y : State) (n : ℕ) → n ≡ 0 → heldBy (unless n y x .board) (x .fixed) (unless n y x .changing) ≡ heldBy (y .board) (x .fixed) (y .changing)
@@ -182,20 +184,22 @@ left-by x y n h = ap (λ (m : ℕ). heldBy (unless m y x .board) (x .fixed) (unl
 board-by : (x : State) (b : Board) (n : ℕ) → n ≡ 0 → heldBy (unless n b (x .board)) (x .fixed) (x .changing) ≡ heldBy b (x .fixed) (x .changing)
 board-by x b n h = ap (λ (m : ℕ). heldBy (unless m b (x .board)) (x .fixed) (x .changing)) h
 
-pub next-done : (x : State) (k : Call) → refusalOf x k ≡ 0 → next x k ≡ done x (event k)
+asks-done : (x : State) (q : Ask) → engineRefusal (x .board) ≡ 0 → nextBy x (asks q) ≡ done x (asked q)
 unfolding times
-next-done x (CpuRead a) h = refl
-next-done x (CpuWrite a v) h = left-by x (cpuWritten x a v) (cpuWriteRefusal x a) h
-next-done x (LentCpuWrite a v) h = left-by x (cpuWritten x a v) (cpuWriteRefusal x a) h
-next-done x (PictureRead a) h = refl
-next-done x (PictureWrite a v) h = left-by x (pictureWritten x a v) (memoryRefusal picture x a true) h
-next-done x Clock h = board-by x (clocked (x .board)) (engineRefusal (x .board)) h
-next-done x LentClock h = board-by x (clocked (x .board)) (engineRefusal (x .board)) h
-next-done x SoftReset h = board-by x (wasReset (x .board)) (engineRefusal (x .board)) h
-next-done x HardReset h = board-by x (wasReset (x .board)) (engineRefusal (x .board)) h
-next-done x ReadLevel h = refl
-next-done x (PageView a) h = refl
-next-done x ReadForecast h = refl
+asks-done x clocking h = board-by x (clocked (x .board)) (engineRefusal (x .board)) h
+asks-done x resetting h = board-by x (wasReset (x .board)) (engineRefusal (x .board)) h
+asks-done x leveling h = refl
+asks-done x forecasting h = refl
+
+shape-done : (x : State) (s : Shape) → refusalBy x s ≡ 0 → nextBy x s ≡ done x (eventBy s)
+shape-done x (reads s a) h = refl
+shape-done x (writes cpu a v) h = left-by x (cpuWritten x a v) (cpuWriteRefusal x a) h
+shape-done x (writes picture a v) h = left-by x (pictureWritten x a v) (memoryRefusal picture x a true) h
+shape-done x (views a) h = refl
+shape-done x (asks q) h = asks-done x q h
+
+pub next-done : (x : State) (k : Call) → refusalOf x k ≡ 0 → next x k ≡ done x (event k)
+next-done x k h = shape-done x (shape k) h
 
 -- a level that is there is no refusal, and neither is a forecast
 pub level-fine : (on halt : Bool) (x : Float) → levelRefusal (levelName on halt x) ≡ 0
@@ -213,40 +217,39 @@ forecast-number q zero = either (λ f. forecastRefusal (forecastOf f) ≡ 0) (q 
 forecast-number q (suc n) = refl
 
 -- the answer says that number
-pub answered : (x : State) (k : Call) → refusalIn (given x k) ≡ refusalOf x k
-answered x (CpuRead a) = refl
-answered x (CpuWrite a v) = refl
-answered x (LentCpuWrite a v) = refl
-answered x (PictureRead a) = refl
-answered x (PictureWrite a v) = refl
-answered x Clock = refl
-answered x LentClock = refl
-answered x SoftReset = refl
-answered x HardReset = refl
-answered x ReadLevel = level-number (x .board .audio) (engineRefusal (x .board))
-answered x (PageView a) = refl
-answered x ReadForecast = forecast-number (x .board .irq) (engineRefusal (x .board))
+asks-answered : (x : State) (q : Ask) → refusalIn (told (x .board) q) ≡ engineRefusal (x .board)
+asks-answered x clocking = refl
+asks-answered x resetting = refl
+asks-answered x leveling = level-number (x .board .audio) (engineRefusal (x .board))
+asks-answered x forecasting = forecast-number (x .board .irq) (engineRefusal (x .board))
+
+pub answered : (x : State) (s : Shape) → refusalIn (givenBy x s) ≡ refusalBy x s
+answered x (reads s a) = refl
+answered x (writes cpu a v) = refl
+answered x (writes picture a v) = refl
+answered x (views a) = refl
+answered x (asks q) = asks-answered x q
 
 module _ (c : Creation) (l : Ledger) (r : Count) (x : Audio) where
   pub stepped : (k : Call) → length (l .registers .chr) ≡ 8 → refusalOf (shown c l r x) k ≡ 0
       → next (shown c l r x) k ≡ shown c (noted c l (event k)) (countNext l r (event k)) (audioNext (l .origin) x (event k))
   stepped k e h = next-done (shown c l r x) k h ∙ led c l r x (event k) e
 
-  one-tick : engineRefusal (shown c l r x .board) ≡ 0 → ticksIn (given (shown c l r x) Clock) ≡ ticksNoted (l .timing) (clocks 1)
+  one-tick : engineRefusal (shown c l r x .board) ≡ 0 → ticksIn (givenBy (shown c l r x) (asks clocking)) ≡ ticksNoted (l .timing) (clocks 1)
   unfolding times count
   one-tick h =
       ap (λ (n : ℕ). flag (unless n (clockAnswer (irqOf (l .timing) r) .ticked) false)) h ∙ sym (add-zero (flag (clockTicks (l .timing))))
 
-  pub ticked : (k : Call) → refusalOf (shown c l r x) k ≡ 0 → ticksIn (given (shown c l r x) k) ≡ ticksNoted (l .timing) (event k)
-  ticked (CpuRead a) h = refl
-  ticked (CpuWrite a v) h = refl
-  ticked (LentCpuWrite a v) h = refl
-  ticked (PictureRead a) h = refl
-  ticked (PictureWrite a v) h = refl
-  ticked Clock h = one-tick h
-  ticked LentClock h = one-tick h
-  ticked SoftReset h = refl
-  ticked HardReset h = refl
-  ticked ReadLevel h = refl
-  ticked (PageView a) h = refl
-  ticked ReadForecast h = refl
+  asks-ticked : (q : Ask) → engineRefusal (shown c l r x .board) ≡ 0
+      → ticksIn (givenBy (shown c l r x) (asks q)) ≡ ticksNoted (l .timing) (asked q)
+  asks-ticked clocking h = one-tick h
+  asks-ticked resetting h = refl
+  asks-ticked leveling h = refl
+  asks-ticked forecasting h = refl
+
+  pub ticked : (s : Shape) → refusalBy (shown c l r x) s ≡ 0 → ticksIn (givenBy (shown c l r x) s) ≡ ticksNoted (l .timing) (eventBy s)
+  ticked (reads s a) h = refl
+  ticked (writes cpu a v) h = refl
+  ticked (writes picture a v) h = refl
+  ticked (views a) h = refl
+  ticked (asks q) h = asks-ticked q h

@@ -11,7 +11,7 @@ use Rattle.audio.specs.Sound.{audioAt}
 use Rattle.calls.specs.declared.Call.{Call}
 use Rattle.vrc6.specs.Boards.{State, heldBy, Creation, newBoard, zeroBoard, table}
 use Rattle.vrc6.specs.Checks.{createRefusal}
-use Rattle.calls.specs.Lists.{Given, refusalIn, ticksIn, after, answers}
+use Rattle.calls.specs.Lists.{shape, Given, refusalIn, ticksIn, after, answers}
 use Rattle.ledger.specs.Ledger.{Ledger, opening, event, noted, ledger, ledgerOf, entries}
 use Rattle.ledger.specs.Demand3.{timingOf, WholeSum, start, Demand3}
 use Rattle.ledger.specs.Foreseen.{foreseen, ForeseenLaw}
@@ -35,7 +35,7 @@ module _ (c : Creation) (ok : Accepted c) where
   ran [] l r x k = record { count = r; audio = x; lasts = k; state = refl; none = tt; foretold = refl }
   ran (call ∷ ks) l r x k =
       let e = event call in
-      let fine = none-refused c ok l r x k call in
+      let fine = none-refused c ok l r x k (shape call) in
       let step = stepped c l r x call (k .eight) fine in
       let more = ran ks (noted c l e) (countNext l r e) (audioNext (l .origin) x e) (kept c ok l x e k) in
       record {
@@ -44,9 +44,9 @@ module _ (c : Creation) (ok : Accepted c) where
         lasts = more .lasts;
         state = ap (λ (y : State). after y ks) step ∙ more .state;
         none =
-            (answered (shown c l r x) call ∙ fine, subst (λ (y : State). Each (λ a. refusalIn a ≡ 0) (answers y ks)) (sym step) (more .none));
+            (answered (shown c l r x) (shape call) ∙ fine, subst (λ (y : State). Each (λ a. refusalIn a ≡ 0) (answers y ks)) (sym step) (more .none));
         foretold =
-            ap₂ (λ (n : ℕ) (rest : List ℕ). n ∷ rest) (ticked c l r x call fine)
+            ap₂ (λ (n : ℕ) (rest : List ℕ). n ∷ rest) (ticked c l r x (shape call) fine)
             (ap (λ (y : State). map ticksIn (answers y ks)) step ∙ more .foretold);
       }
 
@@ -56,7 +56,7 @@ module _ (c : Creation) (ok : Accepted c) where
   effects [] l r x k = refl
   effects (call ∷ ks) l r x k =
       let e = event call in
-      ap (λ (y : State). after y ks) (stepped c l r x call (k .eight) (none-refused c ok l r x k call))
+      ap (λ (y : State). after y ks) (stepped c l r x call (k .eight) (none-refused c ok l r x k (shape call)))
       ∙ effects ks (noted c l e) (countNext l r e) (audioNext (l .origin) x e) (kept c ok l x e k)
       ∙ ap (λ (y : State). played y ks) (sym (led c l r x e (k .eight)))
 
@@ -84,7 +84,7 @@ pub never-refused : (c : Creation) → createRefusal c ≡ 0 → (ks : List Call
 never-refused c h ks k =
     let w = whole c h ks in
     ap (λ (x : State). refusalOf x k) (w .state)
-    ∙ none-refused c (accepted c h) (ledgerOf c ks) (w .count) (w .audio) (w .lasts) k
+    ∙ none-refused c (accepted c h) (ledgerOf c ks) (w .count) (w .audio) (w .lasts) (shape k)
 
 -- ---- the claim, read off
 pub demand3 : Demand3

@@ -26,7 +26,7 @@ use Rattle.banks.specs.Banking.{mirroringNumber, isB}
 use Rattle.slots.specs.Nametables.{mirroringNumbers, nametableNumbers, nametableMirroring}
 use Rattle.tables.specs.Tables.{tableOf}
 use Rattle.calls.specs.declared.Call.{Call}
-use Rattle.calls.specs.declared.Call.the-variants.{CpuRead, CpuWrite, LentCpuWrite, PictureRead, PictureWrite, Clock, LentClock, SoftReset, HardReset, ReadLevel, PageView, ReadForecast}
+use Rattle.calls.specs.Lists.{Ask, clocking, resetting, leveling, forecasting, Shape, reads, writes, views, asks, shape}
 use Rattle.vrc6.specs.Boards.{Creation}
 
 -- ---- what it holds
@@ -118,20 +118,24 @@ pub data Event : Type 0 where
   clocks : (count : ℕ) → Event
   resets looks : Event
 
--- a call, in either form, by value or lent; reads, level, view and forecast are all one to it (01: "Any other call: nothing")
+-- of interrupt and sound
+abbrev pub asked : Ask → Event
+asked clocking = clocks 1
+asked resetting = resets
+asked leveling = looks
+asked forecasting = looks
+
+-- of each kind; reads, level, view and forecast are all one to it (01: "Any other call: nothing")
+abbrev pub eventBy : Shape → Event
+eventBy (reads s a) = looks
+eventBy (writes cpu a v) = cpuWrites a v
+eventBy (writes picture a v) = pictureWrites a v
+eventBy (views a) = looks
+eventBy (asks q) = asked q
+
+-- a call, in either form, by value or lent
 abbrev pub event : Call → Event
-event (CpuRead a) = looks
-event (CpuWrite a v) = cpuWrites a v
-event (LentCpuWrite a v) = cpuWrites a v
-event (PictureRead a) = looks
-event (PictureWrite a v) = pictureWrites a v
-event Clock = clocks 1
-event LentClock = clocks 1
-event SoftReset = resets
-event HardReset = resets
-event ReadLevel = looks
-event (PageView a) = looks
-event ReadForecast = looks
+event k = eventBy (shape k)
 
 -- ---- what it makes of each
 -- a bank register takes the byte (01)

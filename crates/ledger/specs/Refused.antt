@@ -15,11 +15,10 @@ use Rattle.audio.specs.Levels.{levelIn}
 use Rattle.engine.specs.declared.answers.Forecast.{Forecast}
 use Rattle.engine.specs.declared.answers.Forecast.the-variants.{None, In, Refused}
 use Rattle.calls.specs.declared.Call.{Call}
-use Rattle.calls.specs.declared.Call.the-variants.{CpuRead, CpuWrite, LentCpuWrite, PictureRead, PictureWrite, Clock, LentClock, SoftReset, HardReset, ReadLevel, PageView, ReadForecast}
 use Rattle.vrc6.specs.Boards.{State, Creation, zeroBoard, entryOf}
 use Rattle.vrc6.specs.Checks.{allZero, engineInRange, registerChecks}
 use Rattle.vrc6.specs.Calls.{create}
-use Rattle.calls.specs.Lists.{Given, ofRead, ofWrite, ofClock, ofLevel, ofForecast, ofView, given, refusalIn, ticksIn, next}
+use Rattle.calls.specs.Lists.{Shape, reads, writes, views, asks, shape, Given, ofRead, ofWrite, ofClock, ofLevel, ofForecast, ofView, given, refusalIn, ticksIn, next}
 
 -- ---- what an answer carries
 -- its byte; 0 where the call answers none
@@ -96,20 +95,17 @@ memoryChecks s x a others =
 abbrev pub engineChecks : State → List (Bool × ℕ)
 engineChecks x = (engineInRange (x .board), 3) ∷ []
 
--- what each call checks, in order, with the number of each (01, "The board's calls")
+-- what each kind of call checks, in order, with the number of each (01, "The board's calls")
+abbrev pub checksBy : State → Shape → List (Bool × ℕ)
+checksBy x (reads s a) = memoryChecks s x a true
+checksBy x (writes cpu a v) = memoryChecks cpu x a (registerChecks (x .board) a)
+checksBy x (writes picture a v) = memoryChecks picture x a true
+checksBy x (views a) = memoryChecks picture x a true
+checksBy x (asks q) = engineChecks x
+
+-- what each call checks
 abbrev pub checks : State → Call → List (Bool × ℕ)
-checks x (CpuRead a) = memoryChecks cpu x a true
-checks x (CpuWrite a v) = memoryChecks cpu x a (registerChecks (x .board) a)
-checks x (LentCpuWrite a v) = memoryChecks cpu x a (registerChecks (x .board) a)
-checks x (PictureRead a) = memoryChecks picture x a true
-checks x (PictureWrite a v) = memoryChecks picture x a true
-checks x Clock = engineChecks x
-checks x LentClock = engineChecks x
-checks x SoftReset = engineChecks x
-checks x HardReset = engineChecks x
-checks x ReadLevel = engineChecks x
-checks x (PageView a) = memoryChecks picture x a true
-checks x ReadForecast = engineChecks x
+checks x k = checksBy x (shape k)
 
 -- what create checks (01)
 abbrev pub createChecks : Creation → List (Bool × ℕ)

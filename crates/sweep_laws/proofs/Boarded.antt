@@ -1,9 +1,8 @@
 -- A call's next counter on the board. Assumes nothing.
-use mathlib.Core.Path.{_≡_, refl, ap, _∙_}
-use mathlib.Core.Bool.{true}
+use mathlib.Core.Path.{_≡_, refl, sym, ap, _∙_}
+use mathlib.Core.Bool.{Bool}
 use Prim.Native.Nat.{ℕ}
-use Rattle.basics.specs.Refusals.{unless}
-use Rattle.paging.specs.Paging.{picture}
+use Rattle.steps.proofs.Iterated.{carried, keeps}
 use Rattle.decode.specs.declared.BankRegister.{BankRegister}
 use Rattle.decode.specs.declared.BankRegister.the-variants.{Prg16, Prg8, Mode, Chr}
 use Rattle.decode.specs.declared.Register.{Register}
@@ -11,13 +10,17 @@ use Rattle.decode.specs.declared.Register.the-variants.{Nothing, OfBank, OfAudi
 use Rattle.decode.specs.Decode.{decode}
 use Rattle.banks.specs.declared.banking.Banking.{Banking}
 use Rattle.banks.specs.Banking.{bankWritten}
+use Rattle.vrc_irq.specs.Board.{clockAnswer}
 use Rattle.engine.specs.Writes.{irqAfter as registerTaken}
 use Rattle.vrc6.specs.declared.board.Board.{Board}
 use Rattle.vrc6.specs.Boards.{State}
-use Rattle.vrc6.specs.Checks.{engineRefusal, memoryRefusal, cpuWriteRefusal}
-use Rattle.vrc6.specs.Calls.{registerWritten, cpuWritten, pictureWritten, clocked, wasReset}
-use Rattle.calls.specs.declared.Call.the-variants.{CpuRead, CpuWrite, LentCpuWrite, PictureRead, PictureWrite, Clock, LentClock, SoftReset, HardReset, ReadLevel, PageView, ReadForecast}
-use Rattle.sweep_laws.specs.Laws.{Counted, CounterLaw}
+use Rattle.vrc6.specs.Calls.{registerWritten, clocked}
+use Rattle.calls.specs.Lists.{shape}
+use Rattle.ledger.specs.Ledger.{Event, cpuWrites, pictureWrites, clocks, resets, looks, event}
+use Rattle.ledger.specs.Played.{done}
+use Rattle.ledger.proofs.Shown.{answered, next-done}
+use Rattle.sweep_laws.specs.Counter.{counterBy}
+use Rattle.sweep_laws.specs.Laws.{CounterLaw}
 
 -- ---- a register takes a byte
 same-revision : (r : BankRegister) (v : ℕ) (b : Banking) → bankWritten r v b .revision ≡ b .revision
@@ -39,48 +42,30 @@ module _ (v : ℕ) (b : Board) where
   revision-kept (OfAudio r) = refl
   revision-kept (OfIrq r) = refl
 
--- ---- the calls that change a board
+-- ---- what a call does
 module _ (x : State) where
-  by-write : (a v : ℕ) → cpuWriteRefusal x a ≡ 0 → Counted x (CpuWrite a v)
-  by-write a v h =
-      let r = decode (x .board .banking .revision) a in
-      record {
-        counter = ap (λ (n : ℕ). unless n (cpuWritten x a v) x .board .irq) h ∙ counter-taken v (x .board) r;
-        revision = ap (λ (n : ℕ). unless n (cpuWritten x a v) x .board .banking .revision) h ∙ revision-kept v (x .board) r;
-      }
+  abbrev b : Bool
+  b = x .board .banking .revision
 
-  by-picture : (a v : ℕ) → memoryRefusal picture x a true ≡ 0 → Counted x (PictureWrite a v)
-  by-picture a v h =
-      record {
-        counter = ap (λ (n : ℕ). unless n (pictureWritten x a v) x .board .irq) h;
-        revision = ap (λ (n : ℕ). unless n (pictureWritten x a v) x .board .banking .revision) h;
-      }
+  counter-by : (e : Event) → done x e .board .irq ≡ counterBy b e (x .board .irq)
+  counter-by (cpuWrites a v) = counter-taken v (x .board) (decode b a)
+  counter-by (pictureWrites a v) = refl
+  counter-by (clocks n) = carried clocked (λ q. clockAnswer q .irq) (λ c. c .irq) (λ c. refl) (x .board) n
+  counter-by resets = refl
+  counter-by looks = refl
 
-  by-clock : engineRefusal (x .board) ≡ 0 → Counted x Clock
-  by-clock h =
-      record {
-        counter = ap (λ (n : ℕ). unless n (clocked (x .board)) (x .board) .irq) h;
-        revision = ap (λ (n : ℕ). unless n (clocked (x .board)) (x .board) .banking .revision) h;
-      }
-
-  by-reset : engineRefusal (x .board) ≡ 0 → Counted x SoftReset
-  by-reset h =
-      record {
-        counter = ap (λ (n : ℕ). unless n (wasReset (x .board)) (x .board) .irq) h;
-        revision = ap (λ (n : ℕ). unless n (wasReset (x .board)) (x .board) .banking .revision) h;
-      }
+  revision-by : (e : Event) → done x e .board .banking .revision ≡ b
+  revision-by (cpuWrites a v) = revision-kept v (x .board) (decode b a)
+  revision-by (pictureWrites a v) = refl
+  revision-by (clocks n) = keeps clocked (λ c. c .banking .revision ≡ b) (λ c h. h) (x .board) refl n
+  revision-by resets = refl
+  revision-by looks = refl
 
 -- ---- every call
 pub counter-law : CounterLaw
-counter-law x (CpuRead a) h = record { counter = refl; revision = refl }
-counter-law x (CpuWrite a v) h = by-write x a v h
-counter-law x (LentCpuWrite a v) h = record { counter = by-write x a v h .counter; revision = by-write x a v h .revision }
-counter-law x (PictureRead a) h = record { counter = refl; revision = refl }
-counter-law x (PictureWrite a v) h = by-picture x a v h
-counter-law x Clock h = by-clock x h
-counter-law x LentClock h = record { counter = by-clock x h .counter; revision = by-clock x h .revision }
-counter-law x SoftReset h = by-reset x h
-counter-law x HardReset h = record { counter = by-reset x h .counter; revision = by-reset x h .revision }
-counter-law x ReadLevel h = record { counter = refl; revision = refl }
-counter-law x (PageView a) h = record { counter = refl; revision = refl }
-counter-law x ReadForecast h = record { counter = refl; revision = refl }
+counter-law x k h =
+    let left = next-done x k (sym (answered x (shape k)) ∙ h) in
+    record {
+      counter = ap (λ (y : State). y .board .irq) left ∙ counter-by x (event k);
+      revision = ap (λ (y : State). y .board .banking .revision) left ∙ revision-by x (event k);
+    }

@@ -3,26 +3,30 @@ use mathlib.Core.Path.{_≡_, refl, sym, ap, ap₂, subst, _∙_}
 use mathlib.Core.Bool.{Bool, true, false, cond, false≢true}
 use mathlib.Core.List.{List, [], _∷_, _++_}
 use mathlib.Core.Option.{Option, some}
-use Prim.Native.Nat.{ℕ, _+_, _^_, _<_}
+use Prim.Native.Nat.{ℕ, zero, suc, _+_, _^_, _≤_, _<_}
+use native.Mathlib.Omega.{arith}
 use native.Mathlib.Nat.{zero-add}
 use lib.ListN.{replicate}
 use Rattle.basics.specs.Lists.{Each}
 use Rattle.basics.specs.Refusals.{unless}
+use Rattle.steps.specs.Times.{times}
+use Rattle.steps.proofs.Iterated.{keeps}
+use Rattle.paging.specs.Paging.{cpu, picture}
 use Rattle.decode.specs.Decode.{decode}
 use Rattle.vrc_irq.specs.declared.VrcIrq.{VrcIrq}
-use Rattle.vrc_irq.specs.Board.{step, line}
+use Rattle.vrc_irq.specs.Board.{step, line, clockAnswer}
 use Rattle.vrc_irq.specs.Clocks.{irqAfter}
 use Rattle.calls.specs.declared.Call.{Call}
-use Rattle.calls.specs.declared.Call.the-variants.{CpuRead, CpuWrite, LentCpuWrite, PictureRead, PictureWrite, Clock, LentClock, SoftReset, HardReset, ReadLevel, PageView, ReadForecast}
+use Rattle.calls.specs.declared.Call.the-variants.{Clock}
 use Rattle.vrc6.specs.Boards.{State, Creation, newBoard, zeroBoard}
 use Rattle.vrc6.specs.Calls.{create}
-use Rattle.calls.specs.Lists.{refusalIn, next, after, answers}
-use Rattle.ledger.specs.Ledger.{event}
+use Rattle.calls.specs.Lists.{Ask, clocking, resetting, leveling, forecasting, Shape, reads, writes, views, asks, shape, refusalIn, next, after, answers}
+use Rattle.ledger.specs.Ledger.{Event, cpuWrites, pictureWrites, clocks, resets, looks, asked, eventBy, event}
 use Rattle.ledger.specs.Demand3.{weight, clockCount, start}
 use Rattle.ledger.proofs.Whole.{demand3}
 use Rattle.played.specs.Played.{callsOf}
-use Rattle.sweep_laws.specs.Counter.{counterAfter}
-use Rattle.sweep_laws.specs.Rises.{OfByte, Waits, cameAt, risesAt, runAt}
+use Rattle.sweep_laws.specs.Counter.{counterBy}
+use Rattle.sweep_laws.specs.Rises.{ByteEvent, OfByte, Waits, cameAt, risesAt, runAt}
 use Rattle.sweep_laws.specs.Laws.{Comes, RiseLaw, CameLaw}
 use Rattle.sweep_laws.proofs.Boarded.{counter-law}
 use Rattle.sweep_laws.proofs.Runs.{Fine, Ready, fine-clocked, fine-taken, fine-zero, taken-clear, ready-after, rises, quiet, quiet-due}
@@ -30,23 +34,33 @@ use Rattle.sweep_laws.proofs.Walks.{told, found-same, count-joined, cou
 
 -- ---- only a clock sets pending
 module _ (b : Bool) (q : VrcIrq) (c : q .«irq_pending» ≡ false) where
-  risen : (k : Call) → counterAfter b k q .«irq_pending» ≡ true → weight (event k) ≡ 1
-  risen (CpuRead a) h = absurd (false≢true (sym c ∙ h))
-  risen (CpuWrite a v) h = absurd (false≢true (sym (taken-clear (decode b a) v q c) ∙ h))
-  risen (LentCpuWrite a v) h = absurd (false≢true (sym (taken-clear (decode b a) v q c) ∙ h))
-  risen (PictureRead a) h = absurd (false≢true (sym c ∙ h))
-  risen (PictureWrite a v) h = absurd (false≢true (sym c ∙ h))
-  risen Clock h = refl
-  risen LentClock h = refl
-  risen SoftReset h = absurd (false≢true h)
-  risen HardReset h = absurd (false≢true h)
-  risen ReadLevel h = absurd (false≢true (sym c ∙ h))
-  risen (PageView a) h = absurd (false≢true (sym c ∙ h))
-  risen ReadForecast h = absurd (false≢true (sym c ∙ h))
+  risen : (e : Event) → counterBy b e q .«irq_pending» ≡ true → 1 ≤ weight e
+  unfolding times
+  risen (cpuWrites a v) h = absurd (false≢true (sym (taken-clear (decode b a) v q c) ∙ h))
+  risen (pictureWrites a v) h = absurd (false≢true (sym c ∙ h))
+  risen (clocks zero) h = absurd (false≢true (sym c ∙ h))
+  risen (clocks (suc n)) h = omega arith
+  risen resets h = absurd (false≢true h)
+  risen looks h = absurd (false≢true (sym c ∙ h))
+
+-- no call is more than one clock
+asked-light : (q : Ask) → weight (asked q) ≤ 1
+asked-light clocking = omega arith
+asked-light resetting = omega arith
+asked-light leveling = omega arith
+asked-light forecasting = omega arith
+
+light : (s : Shape) → weight (eventBy s) ≤ 1
+light (reads s a) = omega arith
+light (writes cpu a v) = omega arith
+light (writes picture a v) = omega arith
+light (views a) = omega arith
+light (asks q) = asked-light q
 
 pub rise-law : RiseLaw
 rise-law x k h c s =
-    risen (x .board .banking .revision) (x .board .irq) c k (ap (λ (q : VrcIrq). q .«irq_pending») (sym (counter-law x k h .counter)) ∙ s)
+    let some = risen (x .board .banking .revision) (x .board .irq) c (event k) (ap (λ (q : VrcIrq). q .«irq_pending») (sym (counter-law x k h .counter)) ∙ s) in
+    omega (arith, some, light (shape k))
 
 -- ---- no call of a list is refused
 abbrev pub Accepted : State → List Call → Type 0
@@ -57,25 +71,18 @@ accepted-behind [] x ks h = h
 accepted-behind (w ∷ ws) x ks h = accepted-behind ws (next x w) ks (h .1)
 
 -- ---- the counter after a list
-fine-after : (b : Bool) (k : Call) (q : VrcIrq) → OfByte k → Fine q → Fine (counterAfter b k q)
-fine-after b (CpuRead a) q h f = f
-fine-after b (CpuWrite a v) q h f = fine-taken (decode b a) v q h f
-fine-after b (LentCpuWrite a v) q h f = fine-taken (decode b a) v q h f
-fine-after b (PictureRead a) q h f = f
-fine-after b (PictureWrite a v) q h f = f
-fine-after b Clock q h f = fine-clocked q f
-fine-after b LentClock q h f = fine-clocked q f
-fine-after b SoftReset q h f = fine-zero
-fine-after b HardReset q h f = fine-zero
-fine-after b ReadLevel q h f = f
-fine-after b (PageView a) q h f = f
-fine-after b ReadForecast q h f = f
+fine-after : (b : Bool) (e : Event) (q : VrcIrq) → ByteEvent e → Fine q → Fine (counterBy b e q)
+fine-after b (cpuWrites a v) q h f = fine-taken (decode b a) v q h f
+fine-after b (pictureWrites a v) q h f = f
+fine-after b (clocks n) q h f = keeps (λ p. clockAnswer p .irq) Fine fine-clocked q f n
+fine-after b resets q h f = fine-zero
+fine-after b looks q h f = f
 
 pub fine-behind : (ws : List Call) (x : State) → Accepted x ws → Each OfByte ws → Fine (x .board .irq) → Fine (after x ws .board .irq)
 fine-behind [] x h o f = f
 fine-behind (w ∷ ws) x h o f =
     fine-behind ws (next x w) (h .1) (o .1)
-    (subst Fine (sym (counter-law x w (h .0) .counter)) (fine-after (x .board .banking .revision) w (x .board .irq) (o .0) f))
+    (subst Fine (sym (counter-law x w (h .0) .counter)) (fine-after (x .board .banking .revision) (event w) (x .board .irq) (o .0) f))
 
 -- ---- both walks are one
 carried : (ks : List Call) (x : State) (n : ℕ) → Accepted x ks → risesAt x ks n ≡ rises (x .board .banking .revision) (x .board .irq) ks n

@@ -119,6 +119,7 @@ module _ (b : Bool) where
   -- e clocks that do not, one that does, and g more
   sets-after : (e g : ℕ) (q : VrcIrq) (rest : List Call) (j : ℕ) → Ready q → First step line q (suc e)
       → rises b q (replicate (e + suc g) Clock ++ rest) j ≡ some (j + suc e)
+  unfolding times
   sets-after e g q rest j r f =
       let s = irqAfter step line e q in
       ap (λ (ks : List Call). rises b q (ks ++ rest) j) (sym (replicate-append-replicate e (suc g) Clock))

@@ -9,10 +9,10 @@ use Rattle.vrc_irq.specs.declared.VrcIrq.{VrcIrq}
 use Rattle.vrc_irq.specs.Board.{step, line}
 use Rattle.vrc_irq.specs.Clocks.{irqAfter}
 use Rattle.calls.specs.declared.Call.{Call}
-use Rattle.calls.specs.declared.Call.the-variants.{CpuRead, CpuWrite, LentCpuWrite, PictureRead, PictureWrite, Clock, LentClock, SoftReset, HardReset, ReadLevel, PageView, ReadForecast}
+use Rattle.calls.specs.declared.Call.the-variants.{Clock}
 use Rattle.vrc6.specs.Boards.{State}
 use Rattle.calls.specs.Lists.{next}
-use Rattle.ledger.specs.Ledger.{event}
+use Rattle.ledger.specs.Ledger.{Event, cpuWrites, pictureWrites, clocks, resets, looks, event}
 use Rattle.ledger.specs.Demand3.{weight}
 use Rattle.played.specs.Played.{callsOf}
 use Rattle.moments.specs.declared.moment.Came.{Came}
@@ -25,19 +25,16 @@ abbrev pub runAt : (k : ℕ) → List ℕ → (m : ℕ) → List Call
 runAt k codes m = replicate k Clock ++ (callsOf codes ++ replicate m Clock)
 
 -- a call whose byte for a register is a byte
+abbrev pub ByteEvent : Event → Type 0
+ByteEvent (cpuWrites a v) = v ≤ 255
+ByteEvent (pictureWrites a v) = Unit {0}
+ByteEvent (clocks n) = Unit {0}
+ByteEvent resets = Unit {0}
+ByteEvent looks = Unit {0}
+
+-- the same of a call
 abbrev pub OfByte : Call → Type 0
-OfByte (CpuRead a) = Unit {0}
-OfByte (CpuWrite a v) = v ≤ 255
-OfByte (LentCpuWrite a v) = v ≤ 255
-OfByte (PictureRead a) = Unit {0}
-OfByte (PictureWrite a v) = Unit {0}
-OfByte Clock = Unit {0}
-OfByte LentClock = Unit {0}
-OfByte SoftReset = Unit {0}
-OfByte HardReset = Unit {0}
-OfByte ReadLevel = Unit {0}
-OfByte (PageView a) = Unit {0}
-OfByte ReadForecast = Unit {0}
+OfByte k = ByteEvent (event k)
 
 -- ---- on the board
 -- the first call after which pending is set: how many clocks there are up to and with it, counted on from n
