@@ -1,10 +1,12 @@
 -- A call as a value, and lists of calls: each call's whole answer, and the board and buffers that it leaves to the next
 -- (01, "Demand 3's lists and their ledger"). Assumes nothing.
 use mathlib.Core.List.{List, [], _∷_}
+use mathlib.Core.Option.{Option, none, some}
 use Prim.Native.Nat.{ℕ}
+use lib.Ieee.{Float}
 use Rattle.basics.specs.Rows.{flag}
 use Rattle.paging.specs.Paging.{Side, cpu, picture}
-use Rattle.audio.specs.Levels.{levelRefusal}
+use Rattle.audio.specs.Levels.{levelRefusal, levelIn}
 use Rattle.vrc6.specs.declared.board.Board.{Board}
 use Rattle.vrc6.specs.declared.board.ByteRead.{ByteRead}
 use Rattle.vrc6.specs.declared.board.Written.{Written}
@@ -90,51 +92,111 @@ abbrev pub changingAfter : State → Call → List ℕ
 changingAfter x k = changingBy x (shape k)
 
 -- ---- what an answer says
--- the board that it hands back; a view hands none back, and leaves the board where it was
-abbrev pub boardIn : Board → Given → Board
-boardIn b (ofRead r) = r .board
-boardIn b (ofWrite r) = r .board
-boardIn b (ofClock r) = r .board
-boardIn b (ofLevel r) = r .board
-boardIn b (ofForecast r) = r .board
-boardIn b (ofView bytes n) = b
-
 -- the refusal number of a forecast
 abbrev pub forecastRefusal : Forecast → ℕ
 forecastRefusal None = 0
 forecastRefusal (In n) = 0
 forecastRefusal (Refused n) = n
 
+-- the forecast that is told: None is one, a refusal is none
+abbrev pub forecastTold : Forecast → List (Option ℕ)
+forecastTold None = none ∷ []
+forecastTold (In n) = some n ∷ []
+forecastTold (Refused n) = []
+
+-- the parts of an answer
+pub record Parts : Type 0 where
+  -- the board that it hands back; a view hands none back, and leaves the board where it was
+  pub board : (before : Board) → Board
+  -- its refusal number
+  pub refusal : ℕ
+  -- how many ticks it reports
+  pub ticks : ℕ
+  -- its byte; 0 where the call answers none
+  pub byte : ℕ
+  -- its view's bytes
+  pub view : List ℕ
+  -- its level and its forecast, if it carries one
+  pub levels : List Float
+  pub forecasts : List (Option ℕ)
+  -- what it says beside the board and the view's bytes, as `step` answers it
+  pub answer : Answer
+
+-- of every answer
+abbrev pub parts : Given → Parts
+parts (ofRead r) =
+    record {
+      board = λ b. r .board;
+      refusal = r .refusal;
+      ticks = 0;
+      byte = r .byte;
+      view = [];
+      levels = [];
+      forecasts = [];
+      answer = Byte (r .byte) (r .refusal);
+    }
+parts (ofWrite r) =
+    record {
+      board = λ b. r .board;
+      refusal = r .refusal;
+      ticks = 0;
+      byte = 0;
+      view = [];
+      levels = [];
+      forecasts = [];
+      answer = Done (r .refusal);
+    }
+parts (ofClock r) =
+    record {
+      board = λ b. r .board;
+      refusal = r .refusal;
+      ticks = flag (r .ticked);
+      byte = 0;
+      view = [];
+      levels = [];
+      forecasts = [];
+      answer = Tick (r .ticked) (r .refusal);
+    }
+parts (ofLevel r) =
+    record {
+      board = λ b. r .board;
+      refusal = levelRefusal (r .level);
+      ticks = 0;
+      byte = 0;
+      view = [];
+      levels = levelIn (r .level);
+      forecasts = [];
+      answer = OfLevel (r .level);
+    }
+parts (ofForecast r) =
+    record {
+      board = λ b. r .board;
+      refusal = forecastRefusal (r .forecast);
+      ticks = 0;
+      byte = 0;
+      view = [];
+      levels = [];
+      forecasts = forecastTold (r .forecast);
+      answer = OfForecast (r .forecast);
+    }
+parts (ofView bytes n) =
+    record { board = λ b. b; refusal = n; ticks = 0; byte = 0; view = bytes; levels = []; forecasts = []; answer = View n }
+
+-- the board after an answer
+abbrev pub boardIn : Board → Given → Board
+boardIn b a = parts a .board b
+
 -- its refusal number
 abbrev pub refusalIn : Given → ℕ
-refusalIn (ofRead r) = r .refusal
-refusalIn (ofWrite r) = r .refusal
-refusalIn (ofClock r) = r .refusal
-refusalIn (ofLevel r) = levelRefusal (r .level)
-refusalIn (ofForecast r) = forecastRefusal (r .forecast)
-refusalIn (ofView bytes n) = n
+refusalIn a = parts a .refusal
 
 -- how many ticks it reports
 abbrev pub ticksIn : Given → ℕ
-ticksIn (ofRead r) = 0
-ticksIn (ofWrite r) = 0
-ticksIn (ofClock r) = flag (r .ticked)
-ticksIn (ofLevel r) = 0
-ticksIn (ofForecast r) = 0
-ticksIn (ofView bytes n) = 0
-
--- what it says beside the board and the view's bytes, as `step` answers it
-abbrev pub said : Given → Answer
-said (ofRead r) = Byte (r .byte) (r .refusal)
-said (ofWrite r) = Done (r .refusal)
-said (ofClock r) = Tick (r .ticked) (r .refusal)
-said (ofLevel r) = OfLevel (r .level)
-said (ofForecast r) = OfForecast (r .forecast)
-said (ofView bytes n) = View n
+ticksIn a = parts a .ticks
 
 -- `step`: the board that the call hands back, and what the call says
 abbrev pub step : State → Call → Stepped
-step x k = record { board = boardIn (x .board) (given x k); answer = said (given x k) }
+step x k = record { board = boardIn (x .board) (given x k); answer = parts (given x k) .answer }
 
 -- ---- the list
 -- board and buffers after a call of a kind

@@ -8,7 +8,7 @@ use Rattle.basics.specs.Rows.{flag}
 use Rattle.basics.specs.Numbered.{ownNumbers}
 use Rattle.basics.proofs.Tests.{unless-refused}
 use Rattle.basics.proofs.Numbers.{numbered-law}
-use Rattle.paging.specs.Paging.{Side, cpu, picture}
+use Rattle.paging.specs.Paging.{cpu, picture}
 use Rattle.audio.specs.declared.Level.the-variants.{Refused as NoLevel}
 use Rattle.audio.specs.Levels.{levelOf, levelIn}
 use Rattle.vrc_irq.specs.Board.{clockAnswer, forecastAnswer}
@@ -20,8 +20,8 @@ use Rattle.vrc6.specs.Boards.{State, heldBy, newBoard, zeroBoard}
 use Rattle.vrc6.specs.Checks.{createRefusal, memoryRefusal, engineRefusal, cpuWriteRefusal}
 use Rattle.engine.specs.Engine.{forecastOf}
 use Rattle.vrc6.specs.Calls.{byteRead, cpuWrite, pictureWrite, reset}
-use Rattle.calls.specs.Lists.{Ask, clocking, resetting, leveling, forecasting, Shape, reads, writes, views, asks, shape, ofRead, ofWrite, given, givenBy, refusalIn, nextBy}
-use Rattle.ledger.specs.Refused.{forecastTold, GivenBack, RefusedLaw, RefusedCreateLaw, checks, checksBy, createChecks, OrderLaw}
+use Rattle.calls.specs.Lists.{Ask, clocking, resetting, leveling, forecasting, Shape, reads, writes, views, asks, shape, ofRead, ofWrite, given, givenBy, forecastTold, refusalIn, nextBy}
+use Rattle.ledger.specs.Refused.{GivenBack, RefusedLaw, RefusedCreateLaw, checks, checksBy, createChecks, OrderLaw}
 use Rattle.ledger.proofs.Shown.{answered}
 
 -- a number that is not 0

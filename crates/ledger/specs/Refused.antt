@@ -3,76 +3,28 @@
 use mathlib.Core.Path.{_≡_}
 use mathlib.Core.Bool.{Bool, true, _&&_}
 use mathlib.Core.List.{List, [], _∷_}
-use mathlib.Core.Option.{Option, none, some}
 use Prim.Native.Nat.{ℕ}
-use lib.Ieee.{Float}
 use lib.ListN.{length, take}
 use Rattle.basics.specs.Numbered.{Numbered}
 use Rattle.layout.specs.Layout.{withinLimits, lengthsFit}
 use Rattle.layout.specs.Entries.{entryInRange}
 use Rattle.paging.specs.Paging.{Side, cpu, picture}
-use Rattle.audio.specs.Levels.{levelIn}
-use Rattle.engine.specs.declared.answers.Forecast.{Forecast}
-use Rattle.engine.specs.declared.answers.Forecast.the-variants.{None, In, Refused}
 use Rattle.calls.specs.declared.Call.{Call}
 use Rattle.vrc6.specs.Boards.{State, Creation, zeroBoard, entryOf}
 use Rattle.vrc6.specs.Checks.{allZero, engineInRange, registerChecks}
 use Rattle.vrc6.specs.Calls.{create}
-use Rattle.calls.specs.Lists.{Shape, reads, writes, views, asks, shape, Given, ofRead, ofWrite, ofClock, ofLevel, ofForecast, ofView, given, refusalIn, ticksIn, next}
-
--- ---- what an answer carries
--- its byte; 0 where the call answers none
-abbrev pub byteIn : Given → ℕ
-byteIn (ofRead r) = r .byte
-byteIn (ofWrite r) = 0
-byteIn (ofClock r) = 0
-byteIn (ofLevel r) = 0
-byteIn (ofForecast r) = 0
-byteIn (ofView bytes n) = 0
-
--- its view's bytes
-abbrev pub viewIn : Given → List ℕ
-viewIn (ofRead r) = []
-viewIn (ofWrite r) = []
-viewIn (ofClock r) = []
-viewIn (ofLevel r) = []
-viewIn (ofForecast r) = []
-viewIn (ofView bytes n) = bytes
-
--- its level, if it carries one
-abbrev pub levelsIn : Given → List Float
-levelsIn (ofRead r) = []
-levelsIn (ofWrite r) = []
-levelsIn (ofClock r) = []
-levelsIn (ofLevel r) = levelIn (r .level)
-levelsIn (ofForecast r) = []
-levelsIn (ofView bytes n) = []
-
--- the forecast that is told: None is one, a refusal is none
-abbrev pub forecastTold : Forecast → List (Option ℕ)
-forecastTold None = none ∷ []
-forecastTold (In n) = some n ∷ []
-forecastTold (Refused n) = []
-
--- its forecast, if it carries one
-abbrev pub forecastsIn : Given → List (Option ℕ)
-forecastsIn (ofRead r) = []
-forecastsIn (ofWrite r) = []
-forecastsIn (ofClock r) = []
-forecastsIn (ofLevel r) = []
-forecastsIn (ofForecast r) = forecastTold (r .forecast)
-forecastsIn (ofView bytes n) = []
+use Rattle.calls.specs.Lists.{Shape, reads, writes, views, asks, shape, Given, given, parts, refusalIn, next}
 
 -- ---- refused
 -- an answer and the state that the call leaves: board and both buffers as given; byte 0, empty view, no tick, no level, no forecast (01, the
 -- table's first row)
 pub record GivenBack (x : State) (answer : Given) (left : State) : Type 0 where
   pub state : left ≡ x
-  pub byte : byteIn answer ≡ 0
-  pub view : viewIn answer ≡ []
-  pub tick : ticksIn answer ≡ 0
-  pub level : levelsIn answer ≡ []
-  pub forecast : forecastsIn answer ≡ []
+  pub byte : parts answer .byte ≡ 0
+  pub view : parts answer .view ≡ []
+  pub tick : parts answer .ticks ≡ 0
+  pub level : parts answer .levels ≡ []
+  pub forecast : parts answer .forecasts ≡ []
 
 -- of every call whose refusal number is not 0, whatever board and buffers
 abbrev pub RefusedLaw : Type 0
