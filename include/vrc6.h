@@ -28,16 +28,16 @@ extern "C" {
 #endif
 
 /* The number of a refusal: the first condition that fails, in this order. A refused call leaves board and buffers as
- * they were; lent_create leaves the zero board. */
+ * they were; vrc6_create leaves the zero board. */
 enum {
     VRC6_OK = 0,
     VRC6_LIMITS = 1,  /* a length of the layout is above its limit */
     VRC6_LENGTHS = 2, /* a buffer's length is not the layout's */
     VRC6_VALUES = 3,  /* a value that the call checks is out of range */
-    VRC6_ZEROS = 4    /* lent_create only: the first 1,024 bytes of the fixed buffer are not all zero */
+    VRC6_ZEROS = 4    /* vrc6_create only: the first 1,024 bytes of the fixed buffer are not all zero */
 };
 
-/* The mirroring that lent_create takes, and that a board holds. */
+/* The mirroring that vrc6_create takes, and that a board holds. */
 enum {
     VRC6_VERTICAL = 0,
     VRC6_HORIZONTAL = 1,
@@ -46,7 +46,7 @@ enum {
     VRC6_FOUR_SCREEN = 4
 };
 
-/* The revision that lent_create takes: iNES mapper 024, and mapper 026 with address lines 0 and 1 exchanged. */
+/* The revision that vrc6_create takes: iNES mapper 024, and mapper 026 with address lines 0 and 1 exchanged. */
 enum { VRC6_REVISION_A = 0, VRC6_REVISION_B = 1 };
 
 /* The name of a level. */
@@ -176,51 +176,51 @@ static inline size_t vrc6_changing_length(Vrc6MemoryLayout layout) {
  * *board is the zero board: every value is 0. Clock, reset, level, forecast and CPU writes from $8000 up refuse it by
  * VRC6_VALUES. To the other calls it is a board of the layout with all lengths 0: they refuse it by VRC6_LENGTHS, unless
  * the buffers have just 1,024 and 2,048 bytes, and then it shows the fixed buffer's first page everywhere. */
-uint8_t lent_create(Vrc6Board *board, Vrc6MemoryLayout layout, uint8_t mirroring, uint8_t revision,
+uint8_t vrc6_create(Vrc6Board *board, Vrc6MemoryLayout layout, uint8_t mirroring, uint8_t revision,
                     const uint8_t *fixed, size_t fixed_len, const uint8_t *changing, size_t changing_len);
 
 /* One CPU clock: the interrupt counter, then the sound. Only board->irq and board->audio change.
  * Refused by VRC6_VALUES (interrupt and sound). */
-Vrc6Tick lent_clock(Vrc6Board *board);
+Vrc6Tick vrc6_clock(Vrc6Board *board);
 
 /* The same clock, answered by one number: 1 for a tick, 6 for a refusal (by 3), otherwise 0. */
-uint8_t lent_clock_number(Vrc6Board *board);
+uint8_t vrc6_clock_number(Vrc6Board *board);
 
 /* The byte that a CPU address shows. Board and buffers are left as they were.
  * Refused by VRC6_LIMITS, VRC6_LENGTHS or VRC6_VALUES (the page entry of the address). */
-Vrc6Peeked lent_cpu_read(Vrc6Board *board, const uint8_t *fixed, size_t fixed_len, const uint8_t *changing,
+Vrc6Peeked vrc6_cpu_read(Vrc6Board *board, const uint8_t *fixed, size_t fixed_len, const uint8_t *changing,
                          size_t changing_len, uint16_t addr);
 
-/* The byte that a picture address shows, by its low 14 bits. As lent_cpu_read. */
-Vrc6Peeked lent_picture_read(Vrc6Board *board, const uint8_t *fixed, size_t fixed_len, const uint8_t *changing,
+/* The byte that a picture address shows, by its low 14 bits. As vrc6_cpu_read. */
+Vrc6Peeked vrc6_picture_read(Vrc6Board *board, const uint8_t *fixed, size_t fixed_len, const uint8_t *changing,
                              size_t changing_len, uint16_t addr);
 
 /* Stores val where the page of a CPU address takes writes, then writes the register of the address, if it has one.
  * At most one byte of the changing buffer changes.
  * Refused by VRC6_LIMITS, VRC6_LENGTHS or VRC6_VALUES (the page entry, and from $8000 up all of banking, irq and
  * audio). */
-uint8_t lent_cpu_write(Vrc6Board *board, const uint8_t *fixed, size_t fixed_len, uint8_t *changing,
+uint8_t vrc6_cpu_write(Vrc6Board *board, const uint8_t *fixed, size_t fixed_len, uint8_t *changing,
                        size_t changing_len, uint16_t addr, uint8_t val);
 
 /* Stores val where the page of a picture address takes writes. The board is left as it was, and at most one byte of the
- * changing buffer changes. Refused as lent_cpu_read is. */
-uint8_t lent_picture_write(Vrc6Board *board, const uint8_t *fixed, size_t fixed_len, uint8_t *changing,
+ * changing buffer changes. Refused as vrc6_cpu_read is. */
+uint8_t vrc6_picture_write(Vrc6Board *board, const uint8_t *fixed, size_t fixed_len, uint8_t *changing,
                            size_t changing_len, uint16_t addr, uint8_t val);
 
 /* Reset, soft or hard: board->irq becomes all 0, board->audio.halt false, and nothing else changes.
  * Refused by VRC6_VALUES (interrupt and sound). */
-uint8_t lent_reset(Vrc6Board *board);
+uint8_t vrc6_reset(Vrc6Board *board);
 
 /* The level of the sound now. The board is left as it was. Refused by VRC6_VALUES (interrupt and sound). */
-Vrc6LevelTold lent_level(Vrc6Board *board);
+Vrc6LevelTold vrc6_level(Vrc6Board *board);
 
-/* How many calls of lent_clock it takes until the counter next sets irq_pending, if no write to it and no reset comes
+/* How many calls of vrc6_clock it takes until the counter next sets irq_pending, if no write to it and no reset comes
  * between. The board is left as it was. Refused by VRC6_VALUES (interrupt and sound). */
-Vrc6ForecastTold lent_forecast(Vrc6Board *board);
+Vrc6ForecastTold vrc6_forecast(Vrc6Board *board);
 
 /* Where the page of a picture address lies, for a renderer that takes many bytes of it. Board and buffers are left as
- * they were, and the place stays the same until the next lent_cpu_write. Refused as lent_cpu_read is. */
-Vrc6PageAt lent_page_view(Vrc6Board *board, const uint8_t *fixed, size_t fixed_len, const uint8_t *changing,
+ * they were, and the place stays the same until the next vrc6_cpu_write. Refused as vrc6_cpu_read is. */
+Vrc6PageAt vrc6_page_view(Vrc6Board *board, const uint8_t *fixed, size_t fixed_len, const uint8_t *changing,
                           size_t changing_len, uint16_t addr);
 
 /* What the archive was compiled for; host/c/sizes.c sees that it is. */

@@ -37,27 +37,27 @@ static inline void insert_cart(void) {
 }
 
 static inline uint8_t make(Vrc6Board *board) {
-    return lent_create(board, cart, VRC6_VERTICAL, VRC6_REVISION_A, fixed, FIXED, changing, CHANGING);
+    return vrc6_create(board, cart, VRC6_VERTICAL, VRC6_REVISION_A, fixed, FIXED, changing, CHANGING);
 }
 
 static inline uint8_t cpu_write(Vrc6Board *board, uint16_t addr, uint8_t val) {
-    return lent_cpu_write(board, fixed, FIXED, changing, CHANGING, addr, val);
+    return vrc6_cpu_write(board, fixed, FIXED, changing, CHANGING, addr, val);
 }
 
 static inline Vrc6Peeked cpu_read(Vrc6Board *board, uint16_t addr) {
-    return lent_cpu_read(board, fixed, FIXED, changing, CHANGING, addr);
+    return vrc6_cpu_read(board, fixed, FIXED, changing, CHANGING, addr);
 }
 
 static inline Vrc6Peeked picture_read(Vrc6Board *board, uint16_t addr) {
-    return lent_picture_read(board, fixed, FIXED, changing, CHANGING, addr);
+    return vrc6_picture_read(board, fixed, FIXED, changing, CHANGING, addr);
 }
 
 static inline uint8_t picture_write(Vrc6Board *board, uint16_t addr, uint8_t val) {
-    return lent_picture_write(board, fixed, FIXED, changing, CHANGING, addr, val);
+    return vrc6_picture_write(board, fixed, FIXED, changing, CHANGING, addr, val);
 }
 
 static inline Vrc6PageAt page_view(Vrc6Board *board, uint16_t addr) {
-    return lent_page_view(board, fixed, FIXED, changing, CHANGING, addr);
+    return vrc6_page_view(board, fixed, FIXED, changing, CHANGING, addr);
 }
 
 static int tested, failed;

@@ -20,8 +20,8 @@ static uint32_t bits(float f) {
 
 /* A call on a board, and then a value of it. */
 #define WRITTEN(addr, val, path) (cpu_write(&b, addr, val) == VRC6_OK ? (int64_t)b.path : -1)
-#define CLOCKED(path) (lent_clock(&b).refusal == VRC6_OK ? (int64_t)b.path : -1)
-#define SUM() (lent_clock(&b).refusal == VRC6_OK ? (int64_t)bits(b.audio.out) : -1)
+#define CLOCKED(path) (vrc6_clock(&b).refusal == VRC6_OK ? (int64_t)b.path : -1)
+#define SUM() (vrc6_clock(&b).refusal == VRC6_OK ? (int64_t)bits(b.audio.out) : -1)
 
 static void layout(void) {
     SET(made, layout.prg_rom, 262145, cpu_read(&b, 0).refusal, VRC6_LIMITS);
@@ -84,15 +84,15 @@ static void interrupt(void) {
     armed.irq.counter = 200;
     armed.irq.prescalar_counter = 100;
     SET(made, irq.reload, 7, WRITTEN(0xF001, 2, irq.counter), 7);
-    SET(armed, irq.counter, 201, lent_forecast(&b).clocks, (341 * 54 + 102) / 3);
-    SET(armed, irq.prescalar_counter, 0x101, lent_forecast(&b).clocks, (341 * 55 + 0x101 + 2) / 3);
-    SET(armed, irq.prescalar_counter, 342, lent_forecast(&b).refusal, VRC6_VALUES);
-    SET(armed, irq.prescalar_counter, 342, lent_clock_number(&b), 2 * VRC6_VALUES);
-    SET(armed, irq.prescalar_counter, 3, lent_clock(&b).ticked, true);
-    SET(armed, irq.prescalar_counter, 4, lent_clock(&b).ticked, false);
-    SET(armed, irq.enabled, true, lent_forecast(&b).armed, true);
-    SET(armed, irq.enabled, false, lent_forecast(&b).armed, false);
-    SET(armed, irq.cycle_mode, true, lent_forecast(&b).clocks, 56);
+    SET(armed, irq.counter, 201, vrc6_forecast(&b).clocks, (341 * 54 + 102) / 3);
+    SET(armed, irq.prescalar_counter, 0x101, vrc6_forecast(&b).clocks, (341 * 55 + 0x101 + 2) / 3);
+    SET(armed, irq.prescalar_counter, 342, vrc6_forecast(&b).refusal, VRC6_VALUES);
+    SET(armed, irq.prescalar_counter, 342, vrc6_clock_number(&b), 2 * VRC6_VALUES);
+    SET(armed, irq.prescalar_counter, 3, vrc6_clock(&b).ticked, true);
+    SET(armed, irq.prescalar_counter, 4, vrc6_clock(&b).ticked, false);
+    SET(armed, irq.enabled, true, vrc6_forecast(&b).armed, true);
+    SET(armed, irq.enabled, false, vrc6_forecast(&b).armed, false);
+    SET(armed, irq.cycle_mode, true, vrc6_forecast(&b).clocks, 56);
     SET(made, irq.enabled_after_ack, true, WRITTEN(0xF002, 0, irq.enabled), 1);
     SET(made, irq.irq_pending, true, CLOCKED(irq.irq_pending), 1);
     SET(made, irq.irq_pending, true, WRITTEN(0xF002, 0, irq.irq_pending), 0);
@@ -105,18 +105,18 @@ static void interrupt(void) {
         on.p = (Vrc6Pulse){.enabled = true, .volume = 9, .duty_cycle = 3, .frequency = 0x456, .timer = 2, .step = 3};  \
         SET(on, p.enabled, true, SUM(), bits(9));                                                                      \
         SET(on, p.enabled, false, SUM(), bits(0));                                                                     \
-        SET(on, p.enabled, false, lent_level(&b).name, VRC6_SILENT);                                                   \
+        SET(on, p.enabled, false, vrc6_level(&b).name, VRC6_SILENT);                                                   \
         SET(on, p.volume, 5, SUM(), bits(5));                                                                          \
-        SET(on, p.volume, 16, lent_clock(&b).refusal, VRC6_VALUES);                                                    \
+        SET(on, p.volume, 16, vrc6_clock(&b).refusal, VRC6_VALUES);                                                    \
         SET(on, p.duty_cycle, 2, SUM(), bits(0));                                                                      \
-        SET(on, p.duty_cycle, 8, lent_clock(&b).refusal, VRC6_VALUES);                                                 \
+        SET(on, p.duty_cycle, 8, vrc6_clock(&b).refusal, VRC6_VALUES);                                                 \
         SET(on, p.step, 4, SUM(), bits(0));                                                                            \
-        SET(on, p.step, 16, lent_clock(&b).refusal, VRC6_VALUES);                                                      \
+        SET(on, p.step, 16, vrc6_clock(&b).refusal, VRC6_VALUES);                                                      \
         SET(on, p.timer, 1, SUM(), bits(0));                                                                           \
-        SET(on, p.timer, 0, lent_clock(&b).refusal, VRC6_VALUES);                                                      \
-        SET(on, p.timer, 4097, lent_clock(&b).refusal, VRC6_VALUES);                                                   \
-        SET(on, p.frequency, 4096, lent_clock(&b).refusal, VRC6_VALUES);                                               \
-        SET(on, p.freq_shift, 2, lent_clock(&b).refusal, VRC6_VALUES);                                                 \
+        SET(on, p.timer, 0, vrc6_clock(&b).refusal, VRC6_VALUES);                                                      \
+        SET(on, p.timer, 4097, vrc6_clock(&b).refusal, VRC6_VALUES);                                                   \
+        SET(on, p.frequency, 4096, vrc6_clock(&b).refusal, VRC6_VALUES);                                               \
+        SET(on, p.freq_shift, 2, vrc6_clock(&b).refusal, VRC6_VALUES);                                                 \
         on.p.timer = 1;                                                                                                \
         SET(on, p.ignore_duty, true, SUM(), bits(9));                                                                  \
         SET(on, p.frequency, 0x123, CLOCKED(p.timer), 0x124);                                                          \
@@ -130,15 +130,15 @@ static void saw(void) {
     SET(on, audio.saw.enabled, false, SUM(), bits(0));
     SET(on, audio.saw.accum, 200, CLOCKED(audio.saw.accum), 207);
     SET(on, audio.saw.accum_rate, 63, CLOCKED(audio.saw.accum), 103);
-    SET(on, audio.saw.accum_rate, 64, lent_clock(&b).refusal, VRC6_VALUES);
+    SET(on, audio.saw.accum_rate, 64, vrc6_clock(&b).refusal, VRC6_VALUES);
     SET(on, audio.saw.frequency, 0x123, CLOCKED(audio.saw.timer), 0x124);
-    SET(on, audio.saw.frequency, 4096, lent_clock(&b).refusal, VRC6_VALUES);
+    SET(on, audio.saw.frequency, 4096, vrc6_clock(&b).refusal, VRC6_VALUES);
     SET(on, audio.saw.timer, 0x234, CLOCKED(audio.saw.timer), 0x233);
-    SET(on, audio.saw.timer, 0, lent_clock(&b).refusal, VRC6_VALUES);
+    SET(on, audio.saw.timer, 0, vrc6_clock(&b).refusal, VRC6_VALUES);
     SET(on, audio.saw.step, 13, CLOCKED(audio.saw.step), 0);
-    SET(on, audio.saw.step, 14, lent_clock(&b).refusal, VRC6_VALUES);
+    SET(on, audio.saw.step, 14, vrc6_clock(&b).refusal, VRC6_VALUES);
     SET(on, audio.saw.freq_shift, 8, CLOCKED(audio.saw.timer), 5);
-    SET(on, audio.saw.freq_shift, 1, lent_clock(&b).refusal, VRC6_VALUES);
+    SET(on, audio.saw.freq_shift, 1, vrc6_clock(&b).refusal, VRC6_VALUES);
 }
 
 static void level(void) {
@@ -146,14 +146,14 @@ static void level(void) {
     float scale = 0.25751257f / 15.0f;
     Vrc6Board on = made;
     on.audio.pulse2.enabled = true;
-    SET(on, audio.out, 61, bits(lent_level(&b).level), bits(scale * 61.0f));
-    SET(on, audio.out, 1, bits(lent_level(&b).level), bits(scale));
-    SET(on, audio.out, 62, lent_level(&b).refusal, VRC6_VALUES);
-    SET(on, audio.out, 0.5f, lent_level(&b).refusal, VRC6_VALUES);
-    SET(on, audio.out, -0.0f, lent_level(&b).refusal, VRC6_VALUES);
-    SET(on, audio.halt, false, lent_level(&b).name, VRC6_PLAYING);
-    SET(on, audio.halt, true, lent_level(&b).name, VRC6_HELD);
-    SET(made, audio.halt, true, lent_level(&b).name, VRC6_SILENT);
+    SET(on, audio.out, 61, bits(vrc6_level(&b).level), bits(scale * 61.0f));
+    SET(on, audio.out, 1, bits(vrc6_level(&b).level), bits(scale));
+    SET(on, audio.out, 62, vrc6_level(&b).refusal, VRC6_VALUES);
+    SET(on, audio.out, 0.5f, vrc6_level(&b).refusal, VRC6_VALUES);
+    SET(on, audio.out, -0.0f, vrc6_level(&b).refusal, VRC6_VALUES);
+    SET(on, audio.halt, false, vrc6_level(&b).name, VRC6_PLAYING);
+    SET(on, audio.halt, true, vrc6_level(&b).name, VRC6_HELD);
+    SET(made, audio.halt, true, vrc6_level(&b).name, VRC6_SILENT);
 }
 
 static void pulses(void) {

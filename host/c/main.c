@@ -24,7 +24,7 @@ static void show_cpu(const char *what, uint16_t addr) {
 static uint32_t run_to_interrupt(uint32_t *ticks) {
     uint32_t clocks = 0;
     while (!board.irq.irq_pending && clocks < 100000) {
-        Vrc6Tick tick = lent_clock(&board);
+        Vrc6Tick tick = vrc6_clock(&board);
         accepted("clock", tick.refusal);
         *ticks += tick.ticked;
         clocks++;
@@ -45,21 +45,21 @@ static void interrupt(void) {
     uint32_t ticks = 0;
     write_register(0xF000, 0xFE);
     write_register(0xF001, 2);
-    Vrc6ForecastTold told = lent_forecast(&board);
+    Vrc6ForecastTold told = vrc6_forecast(&board);
     accepted("forecast", told.refusal);
     uint32_t clocks = run_to_interrupt(&ticks);
     expect("clocks until the interrupt", clocks, told.clocks);
     printf("reload $FE, control 2: forecast %u, interrupt after %u clocks, %u ticks\n", told.clocks, clocks, ticks);
     write_register(0xF002, 0);
-    printf("acknowledged: pending %d, armed %d\n", board.irq.irq_pending, lent_forecast(&board).armed);
+    printf("acknowledged: pending %d, armed %d\n", board.irq.irq_pending, vrc6_forecast(&board).armed);
 }
 
 static void sound(void) {
     static const char *const names[] = {"silent", "held", "playing"};
     write_register(0x9000, 0x8F);
     write_register(0x9002, 0x80);
-    accepted("clock", lent_clock(&board).refusal);
-    Vrc6LevelTold told = lent_level(&board);
+    accepted("clock", vrc6_clock(&board).refusal);
+    Vrc6LevelTold told = vrc6_level(&board);
     accepted("level", told.refusal);
     printf("one pulse at volume 15: %s, level %.7f\n", names[told.name], (double)told.level);
 }

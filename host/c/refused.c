@@ -25,33 +25,33 @@ static void refused(const char *call, int number, int wanted) {
 /* The calls that take buffers. */
 static void all_with_buffers(size_t fixed_len, size_t changing_len, uint16_t addr, int wanted) {
     remember();
-    Vrc6Peeked cpu = lent_cpu_read(&board, fixed, fixed_len, changing, changing_len, addr);
+    Vrc6Peeked cpu = vrc6_cpu_read(&board, fixed, fixed_len, changing, changing_len, addr);
     refused("cpu_read", cpu.refusal, wanted);
     expect("cpu_read, byte", cpu.byte, 0);
-    Vrc6Peeked picture = lent_picture_read(&board, fixed, fixed_len, changing, changing_len, addr);
+    Vrc6Peeked picture = vrc6_picture_read(&board, fixed, fixed_len, changing, changing_len, addr);
     refused("picture_read", picture.refusal, wanted);
     expect("picture_read, byte", picture.byte, 0);
-    Vrc6PageAt page = lent_page_view(&board, fixed, fixed_len, changing, changing_len, addr);
+    Vrc6PageAt page = vrc6_page_view(&board, fixed, fixed_len, changing, changing_len, addr);
     refused("page_view", page.refusal, wanted);
     expect("page_view, offset", page.offset, 0);
     expect("page_view, changing", page.changing, 0);
-    refused("picture_write", lent_picture_write(&board, fixed, fixed_len, changing, changing_len, addr, 1), wanted);
-    refused("cpu_write", lent_cpu_write(&board, fixed, fixed_len, changing, changing_len, addr, 1), wanted);
+    refused("picture_write", vrc6_picture_write(&board, fixed, fixed_len, changing, changing_len, addr, 1), wanted);
+    refused("cpu_write", vrc6_cpu_write(&board, fixed, fixed_len, changing, changing_len, addr, 1), wanted);
 }
 
 /* The calls that take none. */
 static void all_without_buffers(void) {
     remember();
-    Vrc6Tick tick = lent_clock(&board);
+    Vrc6Tick tick = vrc6_clock(&board);
     refused("clock", tick.refusal, VRC6_VALUES);
     expect("clock, ticked", tick.ticked, 0);
-    refused("clock_number", lent_clock_number(&board), 2 * VRC6_VALUES);
-    refused("reset", lent_reset(&board), VRC6_VALUES);
-    Vrc6LevelTold level = lent_level(&board);
+    refused("clock_number", vrc6_clock_number(&board), 2 * VRC6_VALUES);
+    refused("reset", vrc6_reset(&board), VRC6_VALUES);
+    Vrc6LevelTold level = vrc6_level(&board);
     refused("level", level.refusal, VRC6_VALUES);
     expect("level, level", level.level == 0.0f, 1);
     expect("level, name", level.name, 0);
-    Vrc6ForecastTold forecast = lent_forecast(&board);
+    Vrc6ForecastTold forecast = vrc6_forecast(&board);
     refused("forecast", forecast.refusal, VRC6_VALUES);
     expect("forecast, clocks", forecast.clocks, 0);
     expect("forecast, armed", forecast.armed, 0);
@@ -112,7 +112,7 @@ static void not_created(Vrc6MemoryLayout layout, int mirroring, int revision, si
     memset(&board, 0xEE, sizeof board);
     remember();
     uint8_t number =
-        lent_create(&board, layout, (uint8_t)mirroring, (uint8_t)revision, fixed, fixed_len, changing, CHANGING);
+        vrc6_create(&board, layout, (uint8_t)mirroring, (uint8_t)revision, fixed, fixed_len, changing, CHANGING);
     expect("create", number, wanted);
     for (int i = 0; i < FIELDS; i++)
         expect(fields[i].name, memcmp((uint8_t *)&board + fields[i].at, zeros, fields[i].size), 0);
@@ -125,11 +125,11 @@ static void not_created(Vrc6MemoryLayout layout, int mirroring, int revision, si
 /* The zero board is one of the layout with all lengths 0, and shows the first page of such buffers. */
 static void zero_board(void) {
     memset(&board, 0, sizeof board);
-    Vrc6Peeked at = lent_cpu_read(&board, fixed, 1024, changing, 2048, 0x8000);
+    Vrc6Peeked at = vrc6_cpu_read(&board, fixed, 1024, changing, 2048, 0x8000);
     expect("cpu_read of the zero board", at.refusal, VRC6_OK);
     remember();
-    refused("cpu_write", lent_cpu_write(&board, fixed, 1024, changing, 2048, 0x8000, 1), VRC6_VALUES);
-    refused("cpu_write to no page", lent_cpu_write(&board, fixed, 1024, changing, 2048, 0x6000, 1), VRC6_OK);
+    refused("cpu_write", vrc6_cpu_write(&board, fixed, 1024, changing, 2048, 0x8000, 1), VRC6_VALUES);
+    refused("cpu_write to no page", vrc6_cpu_write(&board, fixed, 1024, changing, 2048, 0x6000, 1), VRC6_OK);
     all_without_buffers();
 }
 

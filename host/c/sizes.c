@@ -35,7 +35,7 @@ static void created_values(bool chr_writable) {
     expect("changing length", (int64_t)vrc6_changing_length(layout), (int64_t)changing_len);
     Vrc6Board b;
     uint8_t refusal =
-        lent_create(&b, layout, VRC6_HORIZONTAL, VRC6_REVISION_B, fixed, fixed_len, ram, changing_len);
+        vrc6_create(&b, layout, VRC6_HORIZONTAL, VRC6_REVISION_B, fixed, fixed_len, ram, changing_len);
     expect("create", refusal, VRC6_OK);
     expect("layout.prg_rom", b.layout.prg_rom, layout.prg_rom);
     expect("layout.chr", b.layout.chr, layout.chr);
@@ -130,13 +130,13 @@ static const Step sound_steps[] = {
 
 static void play(Vrc6Board *board, Step s) {
     if (s.addr == CLOCK) {
-        Vrc6Tick tick = lent_clock(board);
+        Vrc6Tick tick = vrc6_clock(board);
         expect("clock, refusal", tick.refusal, VRC6_OK);
         expect("clock, ticked", tick.ticked, s.val);
     } else if (s.addr == CLOCK_NUMBER) {
-        expect("clock_number", lent_clock_number(board), s.val);
+        expect("clock_number", vrc6_clock_number(board), s.val);
     } else if (s.addr == RESET) {
-        expect("reset", lent_reset(board), VRC6_OK);
+        expect("reset", vrc6_reset(board), VRC6_OK);
     } else {
         expect("cpu_write", cpu_write(board, s.addr, s.val), VRC6_OK);
     }
@@ -163,7 +163,7 @@ static void walk(const Step *steps, size_t n) {
     static Room room, before, after;
     memset(&room, 0xC3, sizeof room);
     uint8_t refusal =
-        lent_create(&room.board, cart, VRC6_FOUR_SCREEN, VRC6_REVISION_A, fixed, FIXED, changing, CHANGING);
+        vrc6_create(&room.board, cart, VRC6_FOUR_SCREEN, VRC6_REVISION_A, fixed, FIXED, changing, CHANGING);
     expect("create", refusal, VRC6_OK);
     for (size_t i = 0; i < n; i++) {
         memcpy(&before, &room, sizeof room);

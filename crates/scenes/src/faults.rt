@@ -1,8 +1,8 @@
 // What is wrong with a row, as a line: the row, the column, and what is wrong.
-use output::ROOM;
-use output::put;
-use output::put_number;
-use output::put_text;
+use text_output::ROOM;
+use text_output::put;
+use text_output::put_number;
+use text_output::put_text;
 
 // The columns, by cells' `column_of`.
 pub const SCENE: usize = 0;

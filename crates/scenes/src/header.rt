@@ -1,12 +1,12 @@
 // The header row: whether its columns will do.
 use crate::faults::put_cell;
 use crate::faults::put_row_fault;
-use cells::cell_at;
-use cells::columns::column_of;
-use cells::lookup::Found;
-use cells::lookup::find_column;
-use output::ROOM;
-use output::put_text;
+use scene_cells::cell_at;
+use scene_cells::columns::column_of;
+use scene_cells::lookup::Found;
+use scene_cells::lookup::find_column;
+use text_output::ROOM;
+use text_output::put_text;
 
 // Where the header starts and ends, how many cells it has, whether it will do, and how many bytes the output buffer holds.
 pub struct Header {

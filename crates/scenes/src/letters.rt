@@ -1,12 +1,12 @@
 // The banks that slots show, and those that were asked.
-use output::ROOM;
-use output::put;
-use output::put_number;
-use output::put_text;
-use played::shown::NO_BANK;
-use sheet::letters::ANY_BANK;
-use sheet::letters::slot_right;
-use sheet::letters::slots_right;
+use scene_board::shown::NO_BANK;
+use scene_steps::letters::ANY_BANK;
+use scene_steps::letters::slot_right;
+use scene_steps::letters::slots_right;
+use text_output::ROOM;
+use text_output::put;
+use text_output::put_number;
+use text_output::put_text;
 
 fn put_bank(out: &mut [u8; ROOM], len: usize, bank: u32) -> usize {
     if bank == NO_BANK {

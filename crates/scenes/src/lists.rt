@@ -6,22 +6,22 @@ use crate::faults::put_room_fault;
 use crate::row::Starts;
 use crate::row::cell_in;
 use crate::scene::MOST_STEPS;
-use output::ROOM;
-use sheet::Step;
-use sheet::letters::ANY_BANK;
-use sheet::letters::NO_PAIR;
-use sheet::letters::NO_SLOT;
-use sheet::letters::Pair;
-use sheet::letters::pair_of;
-use sheet::step::LARGE_ADDRESS;
-use sheet::step::LARGE_BYTE;
-use sheet::step::MANY_CLOCKS;
-use sheet::step::NO_ADDRESS;
-use sheet::step::NO_BYTE;
-use sheet::step::NO_CLOCKS;
-use sheet::step::code_of;
-use sheet::step::step_of;
-use words::next_word;
+use scene_steps::Step;
+use scene_steps::letters::ANY_BANK;
+use scene_steps::letters::NO_PAIR;
+use scene_steps::letters::NO_SLOT;
+use scene_steps::letters::Pair;
+use scene_steps::letters::pair_of;
+use scene_steps::step::LARGE_ADDRESS;
+use scene_steps::step::LARGE_BYTE;
+use scene_steps::step::MANY_CLOCKS;
+use scene_steps::step::NO_ADDRESS;
+use scene_steps::step::NO_BYTE;
+use scene_steps::step::NO_CLOCKS;
+use scene_steps::step::code_of;
+use scene_steps::step::step_of;
+use text_output::ROOM;
+use text_words::next_word;
 
 // How many words were taken, whether all were right, and how many bytes the output buffer holds.
 pub struct Words {

@@ -2,10 +2,10 @@
 // ledger.
 use crate::scene::MOST_STEPS;
 use crate::scene::Scene;
-use layout::MemoryLayout;
-use played::ended::Ended;
-use played::ended::play_scene;
-use vrc_irq::VrcIrq;
+use irq::VrcIrq;
+use memory_layout::MemoryLayout;
+use scene_board::ended::Ended;
+use scene_board::ended::play_scene;
 
 fn none() -> Ended {
     Ended {

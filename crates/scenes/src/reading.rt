@@ -16,12 +16,12 @@ use crate::row::cell_in;
 use crate::scene::MOST_STEPS;
 use crate::scene::NO_WINDOW;
 use crate::scene::Scene;
-use cells::choices::mirroring_of;
-use cells::choices::revision_of;
-use output::ROOM;
-use words::next_word;
-use words::number::Number;
-use words::number::in_base;
+use scene_cells::choices::mirroring_of;
+use scene_cells::choices::revision_of;
+use text_output::ROOM;
+use text_words::next_word;
+use text_words::number::Number;
+use text_words::number::in_base;
 
 // A cell that holds one word, or none: what it says, or what stands for it.
 pub struct Single {

@@ -1,15 +1,15 @@
 // A row: its cells, and what is wrong with their quotes.
 use crate::faults::put_cell_fault;
 use crate::faults::put_row_fault;
-use cells::Cell;
-use cells::UNCLOSED;
-use cells::cell_at;
-use cells::columns::column_of;
-use cells::lookup::cell_under;
-use cells::lookup::nth_cell;
-use output::ROOM;
+use scene_cells::Cell;
+use scene_cells::UNCLOSED;
+use scene_cells::cell_at;
+use scene_cells::columns::column_of;
+use scene_cells::lookup::cell_under;
+use scene_cells::lookup::nth_cell;
+use text_output::ROOM;
 ghost use Prim.Native.Nat.{_%_};
-ghost use Rattle.cells.specs.Rows.{CellUnder};
+ghost use Rattle.scene_cells.specs.Rows.{CellUnder};
 
 // Where the header and a row start.
 pub struct Starts {

@@ -15,15 +15,15 @@ use crate::row::read_row;
 use crate::scene::MOST_STEPS;
 use crate::scene::Scene;
 use crate::totals::Totals;
-use cells::lookup::Found;
-use cells::lookup::find_column;
 use libc::STDERR_FILENO;
-use output::ROOM;
-use output::flush;
-use output::put;
-use output::put_large;
-use output::put_number;
-use output::put_text;
+use scene_cells::lookup::Found;
+use scene_cells::lookup::find_column;
+use text_output::ROOM;
+use text_output::flush;
+use text_output::put;
+use text_output::put_large;
+use text_output::put_number;
+use text_output::put_text;
 
 // The bytes that a sheet may have.
 const MOST_BYTES: usize = 2097152;

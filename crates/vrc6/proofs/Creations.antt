@@ -3,12 +3,12 @@ use mathlib.Core.Path.{_≡_, refl, sym}
 use mathlib.Core.List.{List, [], _∷_, _++_}
 use Prim.Native.Nat.{ℕ}
 use lib.ListN.{length, take}
-use Rattle.basics.proofs.Tests.{unless-refused, unless-done}
-use Rattle.basics.proofs.Numbers.{none-fails}
-use Rattle.layout.specs.declared.regions.MemoryLayout.{MemoryLayout}
-use Rattle.layout.specs.Layout.{layoutChecks}
-use Rattle.layout.specs.Inner.{Limits}
-use Rattle.layout.proofs.Limited.{limits}
+use Rattle.base_shared.proofs.Tests.{unless-refused, unless-done}
+use Rattle.base_shared.proofs.Numbers.{none-fails}
+use Rattle.memory_layout.specs.declared.regions.MemoryLayout.{MemoryLayout}
+use Rattle.memory_layout.specs.Layout.{layoutChecks}
+use Rattle.memory_layout.specs.Required.{Limits}
+use Rattle.memory_layout.proofs.Limited.{limits}
 use Rattle.vrc6.specs.Boards.{Creation, newBoard, zeroBoard}
 use Rattle.vrc6.specs.Checks.{allZero, creationRefusal, createRefusal}
 use Rattle.vrc6.specs.Calls.{create}

@@ -2,13 +2,13 @@
 use mathlib.Core.Path.{_≡_, refl}
 use mathlib.Core.Bool.{false}
 use Prim.Native.Nat.{ℕ, zero, suc}
-use Rattle.basics.specs.Refusals.{unless}
-use Rattle.vrc_irq.specs.Board.{clockAnswer}
+use Rattle.base_shared.specs.Refusals.{unless}
+use Rattle.irq.specs.Timing.{clockAnswer}
 use Rattle.audio.specs.Sound.{audioClocked}
-use Rattle.engine.specs.declared.EngineClocked.{EngineClocked}
-use Rattle.engine.specs.declared.answers.EngineReset.{EngineReset}
-use Rattle.engine.specs.Engine.{engineNumber, engineClocked, engineReset}
-use Rattle.engine.proofs.Engines.{by-number, reset-by}
+use Rattle.vrc6_engine.specs.declared.EngineClocked.{EngineClocked}
+use Rattle.vrc6_engine.specs.declared.answers.EngineReset.{EngineReset}
+use Rattle.vrc6_engine.specs.Engine.{engineNumber, engineClocked, engineReset}
+use Rattle.vrc6_engine.proofs.Engines.{by-number, reset-by}
 use Rattle.vrc6.specs.declared.board.Board.{Board}
 use Rattle.vrc6.specs.declared.board.Clocked.{Clocked}
 use Rattle.vrc6.specs.declared.board.Written.{Written}

@@ -6,20 +6,20 @@ use Prim.Native.Nat.{ℕ, zero, suc}
 use native.Mathlib.Omega.{arith}
 use lib.Dec.{T, eqb}
 use lib.ListN.{length}
-use Rattle.basics.specs.Refusals.{unless}
-use Rattle.basics.proofs.Tests.{unless-refused, unless-done}
-use Rattle.basics.proofs.Numbers.{none-fails}
-use Rattle.layout.specs.declared.page.Page.{Page}
-use Rattle.layout.specs.declared.regions.MemoryLayout.{MemoryLayout}
-use Rattle.layout.specs.Layout.{withinLimits, layoutChecks}
-use Rattle.layout.specs.Entries.{entryInRange}
-use Rattle.paging.specs.Paging.{cpu, picture}
-use Rattle.memory.specs.Access.{accessRefusal, plainRefusal, written}
-use Rattle.decode.specs.declared.BankRegister.{BankRegister}
-use Rattle.decode.specs.declared.Register.{Register}
-use Rattle.decode.specs.declared.Register.the-variants.{Nothing, OfBank, OfAudio, OfIrq}
-use Rattle.decode.specs.Decode.{decode}
-use Rattle.banks.specs.Banking.{bankWritten}
+use Rattle.base_shared.specs.Refusals.{unless}
+use Rattle.base_shared.proofs.Tests.{unless-refused, unless-done}
+use Rattle.base_shared.proofs.Numbers.{none-fails}
+use Rattle.memory_layout.specs.declared.page.Page.{Page}
+use Rattle.memory_layout.specs.declared.regions.MemoryLayout.{MemoryLayout}
+use Rattle.memory_layout.specs.Layout.{withinLimits, layoutChecks}
+use Rattle.memory_layout.specs.Entries.{entryInRange}
+use Rattle.memory_tables.specs.Paging.{cpu, picture}
+use Rattle.memory_access.specs.Access.{accessRefusal, plainRefusal, written}
+use Rattle.registers.specs.declared.BankRegister.{BankRegister}
+use Rattle.registers.specs.declared.Register.{Register}
+use Rattle.registers.specs.declared.Register.the-variants.{Nothing, OfBank, OfAudio, OfIrq}
+use Rattle.registers.specs.Decode.{decode}
+use Rattle.vrc6_banking.specs.Banking.{bankWritten}
 use Rattle.vrc6.specs.declared.board.Board.{Board}
 use Rattle.vrc6.specs.declared.board.Written.{Written}
 use Rattle.vrc6.specs.Boards.{State, entryOf, paged}
@@ -110,6 +110,6 @@ module _ (x : State) (a v n : ℕ) (ys : List ℕ) (page : Page) (p : page ≡ e
   cpu-done h b made =
       let g = sym (unless-done (cpuWritten x a v) x (cpuWriteRefusal x a) n number h) in
       let within = limited (x .board .layout) page (length (x .fixed)) (length (x .changing)) (registerChecks (x .board) a) (sym e ∙ h) in (
-        ap₂ answer (made ∙ taken-within (decode (x .board .banking .revision) a) v (x .board) within ∙ ap (λ (y : State). y .board) g) number,
+        ap₂ answer (made ∙ taken-within (decode (x .board .banking .«revision_b») a) v (x .board) within ∙ ap (λ (y : State). y .board) g) number,
         stored-left ∙ unless-done (storedAt cpu x a v) (x .changing) (cpuWriteRefusal x a) n number h ∙ ap (λ (y : State). y .changing) g,
       )

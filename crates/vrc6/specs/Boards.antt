@@ -4,17 +4,17 @@ use mathlib.Core.Bool.{false}
 use mathlib.Core.List.{List}
 use Prim.Native.Nat.{ℕ}
 use lib.ListN.{replicate}
-use Rattle.layout.specs.declared.page.Page.{Page}
-use Rattle.layout.specs.declared.regions.MemoryLayout.{MemoryLayout}
-use Rattle.layout.specs.Pages.{unmapped}
-use Rattle.paging.specs.Paging.{Side, cpu, picture, entryFor}
-use Rattle.banks.specs.declared.banking.Banking.{Banking}
-use Rattle.slots.specs.declared.Mirroring.{Mirroring}
-use Rattle.banks.specs.declared.banking.Revision.{Revision}
-use Rattle.banks.specs.Banking.{firstBanking, zeroBanking}
-use Rattle.tables.specs.Tables.{cpuEntries, pictureEntries}
-use Rattle.vrc_irq.specs.declared.VrcIrq.{VrcIrq}
-use Rattle.vrc_irq.specs.Interrupt.{irqZero}
+use Rattle.memory_layout.specs.declared.page.Page.{Page}
+use Rattle.memory_layout.specs.declared.regions.MemoryLayout.{MemoryLayout}
+use Rattle.memory_layout.specs.Pages.{unmapped}
+use Rattle.memory_tables.specs.Paging.{Side, cpu, picture, entryFor}
+use Rattle.vrc6_banking.specs.declared.banking.Banking.{Banking}
+use Rattle.vrc6_slots.specs.declared.Mirroring.{Mirroring}
+use Rattle.vrc6_banking.specs.declared.banking.Revision.{Revision}
+use Rattle.vrc6_banking.specs.Banking.{firstBanking, zeroBanking}
+use Rattle.vrc6_tables.specs.Tables.{cpuEntries, pictureEntries}
+use Rattle.irq.specs.declared.VrcIrq.{VrcIrq}
+use Rattle.irq.specs.Interrupt.{irqZero}
 use Rattle.audio.specs.declared.Audio.{Audio}
 use Rattle.audio.specs.Sound.{audioAt}
 use Rattle.vrc6.specs.declared.board.Board.{Board}

@@ -3,22 +3,22 @@ use mathlib.Core.Bool.{Bool, true, false, cond}
 use mathlib.Core.List.{List}
 use Prim.Native.Nat.{ℕ}
 use lib.ListN.{length}
-use Rattle.basics.specs.Refusals.{unless}
-use Rattle.layout.specs.declared.page.Page.{Page}
-use Rattle.layout.specs.declared.regions.MemoryLayout.{MemoryLayout}
-use Rattle.layout.specs.Layout.{withinLimits}
-use Rattle.paging.specs.Paging.{Side, cpu, picture}
-use Rattle.memory.specs.Access.{accessRefusal, peeked, stored, written, viewed}
-use Rattle.decode.specs.declared.BankRegister.{BankRegister}
-use Rattle.decode.specs.declared.Register.{Register}
-use Rattle.decode.specs.declared.Register.the-variants.{Nothing, OfBank, OfAudio, OfIrq}
-use Rattle.decode.specs.Decode.{decode}
-use Rattle.banks.specs.Banking.{bankWritten}
-use Rattle.vrc_irq.specs.Interrupt.{irqZero}
-use Rattle.vrc_irq.specs.Board.{clockAnswer}
+use Rattle.base_shared.specs.Refusals.{unless}
+use Rattle.memory_layout.specs.declared.page.Page.{Page}
+use Rattle.memory_layout.specs.declared.regions.MemoryLayout.{MemoryLayout}
+use Rattle.memory_layout.specs.Layout.{withinLimits}
+use Rattle.memory_tables.specs.Paging.{Side, cpu, picture}
+use Rattle.memory_access.specs.Access.{accessRefusal, peeked, stored, written, viewed}
+use Rattle.registers.specs.declared.BankRegister.{BankRegister}
+use Rattle.registers.specs.declared.Register.{Register}
+use Rattle.registers.specs.declared.Register.the-variants.{Nothing, OfBank, OfAudio, OfIrq}
+use Rattle.registers.specs.Decode.{decode}
+use Rattle.vrc6_banking.specs.Banking.{bankWritten}
+use Rattle.irq.specs.Interrupt.{irqZero}
+use Rattle.irq.specs.Timing.{clockAnswer}
 use Rattle.audio.specs.Sound.{audioWritten, audioClocked, audioReset}
-use Rattle.engine.specs.Engine.{engineLevel, engineForecast}
-use Rattle.engine.specs.Writes.{irqWritten, irqAfter, audioAfter}
+use Rattle.vrc6_engine.specs.Engine.{engineLevel, engineForecast}
+use Rattle.vrc6_engine.specs.Writes.{irqWritten, irqAfter, audioAfter}
 use Rattle.vrc6.specs.declared.board.Board.{Board}
 use Rattle.vrc6.specs.declared.board.Created.{Created}
 use Rattle.vrc6.specs.declared.board.ByteRead.{ByteRead}
@@ -85,11 +85,11 @@ registerTaken (OfAudio r) v b = registerWritten (OfAudio r) v b
 registerTaken (OfIrq r) v b = registerWritten (OfIrq r) v b
 
 abbrev pub takenAt : Board → (address byte : ℕ) → Board
-takenAt b address byte = registerTaken (decode (b .banking .revision) address) byte b
+takenAt b address byte = registerTaken (decode (b .banking .«revision_b») address) byte b
 
 -- the register at an address takes a byte
 abbrev pub writtenAt : Board → (address byte : ℕ) → Board
-writtenAt b address byte = registerWritten (decode (b .banking .revision) address) byte b
+writtenAt b address byte = registerWritten (decode (b .banking .«revision_b») address) byte b
 
 -- a byte goes through the entry of its address, as the entries are (01, Paging)
 abbrev pub storedAt : Side → State → (address byte : ℕ) → List ℕ

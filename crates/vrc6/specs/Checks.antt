@@ -4,16 +4,16 @@ use mathlib.Core.List.{List, [], _∷_, _++_}
 use Prim.Native.Nat.{ℕ}
 use lib.Dec.{eqb, ltb}
 use lib.ListN.{length, take}
-use Rattle.basics.specs.Refusals.{firstFailing}
-use Rattle.layout.specs.declared.regions.MemoryLayout.{MemoryLayout}
-use Rattle.layout.specs.Layout.{layoutChecks}
-use Rattle.paging.specs.Paging.{Side, cpu}
-use Rattle.memory.specs.Access.{accessRefusal}
-use Rattle.vrc_irq.specs.declared.VrcIrq.{VrcIrq}
+use Rattle.base_shared.specs.Refusals.{firstFailing}
+use Rattle.memory_layout.specs.declared.regions.MemoryLayout.{MemoryLayout}
+use Rattle.memory_layout.specs.Layout.{layoutChecks}
+use Rattle.memory_tables.specs.Paging.{Side, cpu}
+use Rattle.memory_access.specs.Access.{accessRefusal}
+use Rattle.irq.specs.declared.VrcIrq.{VrcIrq}
 use Rattle.audio.specs.declared.Audio.{Audio}
-use Rattle.banks.specs.declared.banking.Banking.{Banking}
-use Rattle.banks.specs.Banking.{bankingInRange}
-use Rattle.engine.specs.Engine.{engineOk, engineNumber}
+use Rattle.vrc6_banking.specs.declared.banking.Banking.{Banking}
+use Rattle.vrc6_banking.specs.Banking.{bankingInRange}
+use Rattle.vrc6_engine.specs.Engine.{engineOk, engineNumber}
 use Rattle.vrc6.specs.declared.board.Board.{Board}
 use Rattle.vrc6.specs.Boards.{State, Creation, entryOf}
 

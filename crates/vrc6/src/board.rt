@@ -1,11 +1,11 @@
 // The board, and the answers of its calls.
 use audio::Audio;
 use audio::Level;
-use banks::banking::Banking;
-pub use engine::answers::Forecast;
-use layout::MemoryLayout;
-use layout::Page;
-use vrc_irq::VrcIrq;
+use irq::VrcIrq;
+use memory_layout::MemoryLayout;
+use memory_layout::Page;
+use vrc6_banking::banking::Banking;
+pub use vrc6_engine::answers::Forecast;
 
 #[repr(C)]
 pub struct Board {

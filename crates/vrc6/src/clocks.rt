@@ -6,10 +6,10 @@ use crate::board::Forecasted;
 use crate::board::Leveled;
 use crate::board::ResetKind;
 use crate::board::Written;
-use engine::answers::forecast_engine;
-use engine::answers::level_engine;
-use engine::answers::reset_engine;
-use engine::clock_engine;
+use vrc6_engine::answers::forecast_engine;
+use vrc6_engine::answers::level_engine;
+use vrc6_engine::answers::reset_engine;
+use vrc6_engine::clock_engine;
 ghost use mathlib.Core.Path.{_≡_};
 ghost use Rattle.vrc6.specs.Calls.{clock, forecast, level, reset};
 

@@ -1,14 +1,14 @@
 // The calls that change nothing: CPU read, picture read, page view.
 use crate::board::Board;
 use crate::board::ByteRead;
-use layout::Page;
-use memory::access_refusal;
-use memory::peek;
-use memory::view;
-use paging::chr_table::chr_lookup;
-use paging::prg_table::prg_lookup;
+use memory_access::access_refusal;
+use memory_access::peek;
+use memory_access::view;
+use memory_layout::Page;
+use memory_tables::chr_table::chr_lookup;
+use memory_tables::prg_table::prg_lookup;
 ghost use mathlib.Core.Path.{_≡_};
-ghost use Rattle.paging.specs.Paging.{cpu, picture};
+ghost use Rattle.memory_tables.specs.Paging.{cpu, picture};
 ghost use Rattle.vrc6.specs.Boards.{entryOf, heldBy};
 ghost use Rattle.vrc6.specs.Calls.{byteRead, pageView, pageViewRefusal};
 

@@ -2,25 +2,25 @@
 use crate::board::Board;
 use crate::board::Written;
 use audio::Audio;
-use banks::banking::Banking;
-use decode::BankRegister;
-use decode::Register;
-use decode::decode;
-use engine::engine_in_range;
-use engine::writes::audio_written;
-use engine::writes::irq_written;
-use layout::MemoryLayout;
-use layout::Page;
-use memory::access_refusal;
-use memory::store;
-use memory::write;
-use tables::chr_pages;
-use tables::prg_pages;
-use vrc_irq::VrcIrq;
+use irq::VrcIrq;
+use memory_access::access_refusal;
+use memory_access::store;
+use memory_access::write;
+use memory_layout::MemoryLayout;
+use memory_layout::Page;
+use registers::BankRegister;
+use registers::Register;
+use registers::decode;
+use vrc6_banking::banking::Banking;
+use vrc6_engine::engine_in_range;
+use vrc6_engine::writes::audio_written;
+use vrc6_engine::writes::irq_written;
+use vrc6_tables::chr_pages;
+use vrc6_tables::prg_pages;
 ghost use mathlib.Core.Path.{_≡_};
 ghost use lib.ListN.{length};
-ghost use Rattle.memory.specs.Access.{accessRefusal};
-ghost use Rattle.decode.specs.Decode.{decode};
+ghost use Rattle.memory_access.specs.Access.{accessRefusal};
+ghost use Rattle.registers.specs.Decode.{decode};
 ghost use Rattle.vrc6.specs.Boards.{heldBy};
 ghost use Rattle.vrc6.specs.Checks.{valuesInRange};
 ghost use Rattle.vrc6.specs.Calls.{bankTaken, banksTaken, byteLeft, cpuWrite, cpuWriteLeft, lineTaken, partOf, pictureWrite, pictureWriteLeft, soundTaken, takenAt};
@@ -60,11 +60,11 @@ pub fn write_byte(
 }
 
 // The part of the board that an address reaches, which below $8000 is none: 0 for none, 1 for the banks, 2 for the sound, 3 for the interrupt.
-pub fn reached(revision: bool, addr: u16) -> u8
-    ensures { λ r. ⌜ r ≡ partOf (decode revision addr) ⌝ }
+pub fn reached(revision_b: bool, addr: u16) -> u8
+    ensures { λ r. ⌜ r ≡ partOf (decode «revision_b» addr) ⌝ }
 {
     if 0x8000 <= addr {
-        return match decode(revision, addr) {
+        return match decode(revision_b, addr) {
             Register::Nothing => 0,
             Register::OfBank(bank) => 1,
             Register::OfAudio(sound) => 2,
@@ -96,10 +96,10 @@ impl Board {
 
     // A bank register takes the byte of a CPU write that reaches one.
     pub fn write_banks(self, addr: u16, val: u8) -> Board
-        ensures { λ r. ⌜ r ≡ banksTaken (decode (self .banking .revision) addr) val self ⌝ }
+        ensures { λ r. ⌜ r ≡ banksTaken (decode (self .banking .«revision_b») addr) val self ⌝ }
     {
         let banking = self.banking;
-        match decode(banking.revision, addr) {
+        match decode(banking.revision_b, addr) {
             Register::Nothing => self,
             Register::OfBank(bank) => self.write_bank(bank, val),
             Register::OfAudio(sound) => self,
@@ -109,10 +109,10 @@ impl Board {
 
     // A register of the sound takes the byte of a CPU write that reaches one.
     pub fn write_sound(self, addr: u16, val: u8) -> Board
-        ensures { λ r. ⌜ r ≡ soundTaken (decode (self .banking .revision) addr) val self ⌝ }
+        ensures { λ r. ⌜ r ≡ soundTaken (decode (self .banking .«revision_b») addr) val self ⌝ }
     {
         let banking = self.banking;
-        let audio = audio_written(banking.revision, self.audio, addr, val);
+        let audio = audio_written(banking.revision_b, self.audio, addr, val);
         let mut board = self;
         board.audio = audio;
         board
@@ -120,10 +120,10 @@ impl Board {
 
     // A register of the interrupt takes the byte of a CPU write that reaches one.
     pub fn write_line(self, addr: u16, val: u8) -> Board
-        ensures { λ r. ⌜ r ≡ lineTaken (decode (self .banking .revision) addr) val self ⌝ }
+        ensures { λ r. ⌜ r ≡ lineTaken (decode (self .banking .«revision_b») addr) val self ⌝ }
     {
         let banking = self.banking;
-        let irq = irq_written(banking.revision, self.irq, addr, val);
+        let irq = irq_written(banking.revision_b, self.irq, addr, val);
         let mut board = self;
         board.irq = irq;
         board
@@ -134,7 +134,7 @@ impl Board {
         ensures { λ r. ⌜ r ≡ takenAt self addr val ⌝ }
     {
         let banking = self.banking;
-        let part = reached(banking.revision, addr);
+        let part = reached(banking.revision_b, addr);
         if part == 1 {
             return self.write_banks(addr, val);
         }

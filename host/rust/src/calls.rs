@@ -1,5 +1,5 @@
 //! The archive's calls as safe functions, and the only unsafe code of this package. Each answers as its contract in
-//! crates/lent says: a refusal is a number, 0 for none, and changes nothing.
+//! crates/host_calls says: a refusal is a number, 0 for none, and changes nothing.
 //!
 //! What the archive cannot check, Rust's types promise: a reference is live and not aliased, a slice is as long as it
 //! says, a bool is 0 or 1. The archive keeps no pointer.
@@ -8,30 +8,30 @@ use crate::records::{Board, ForecastTold, LevelTold, MemoryLayout, PageAt, Peeke
 // A slice crosses as a pointer and a length.
 #[rustfmt::skip]
 unsafe extern "C" {
-    fn lent_create(
+    fn vrc6_create(
         board: *mut Board, layout: MemoryLayout, mirroring: u8, revision: u8,
         fixed: *const u8, fixed_len: usize, changing: *const u8, changing_len: usize,
     ) -> u8;
-    fn lent_clock(board: *mut Board) -> Tick;
-    fn lent_clock_number(board: *mut Board) -> u8;
-    fn lent_cpu_read(
+    fn vrc6_clock(board: *mut Board) -> Tick;
+    fn vrc6_clock_number(board: *mut Board) -> u8;
+    fn vrc6_cpu_read(
         board: *mut Board, fixed: *const u8, fixed_len: usize, changing: *const u8, changing_len: usize, addr: u16,
     ) -> Peeked;
-    fn lent_picture_read(
+    fn vrc6_picture_read(
         board: *mut Board, fixed: *const u8, fixed_len: usize, changing: *const u8, changing_len: usize, addr: u16,
     ) -> Peeked;
-    fn lent_cpu_write(
+    fn vrc6_cpu_write(
         board: *mut Board, fixed: *const u8, fixed_len: usize, changing: *mut u8, changing_len: usize,
         addr: u16, val: u8,
     ) -> u8;
-    fn lent_picture_write(
+    fn vrc6_picture_write(
         board: *mut Board, fixed: *const u8, fixed_len: usize, changing: *mut u8, changing_len: usize,
         addr: u16, val: u8,
     ) -> u8;
-    fn lent_reset(board: *mut Board) -> u8;
-    fn lent_level(board: *mut Board) -> LevelTold;
-    fn lent_forecast(board: *mut Board) -> ForecastTold;
-    fn lent_page_view(
+    fn vrc6_reset(board: *mut Board) -> u8;
+    fn vrc6_level(board: *mut Board) -> LevelTold;
+    fn vrc6_forecast(board: *mut Board) -> ForecastTold;
+    fn vrc6_page_view(
         board: *mut Board, fixed: *const u8, fixed_len: usize, changing: *const u8, changing_len: usize, addr: u16,
     ) -> PageAt;
 }
@@ -46,58 +46,58 @@ pub fn create(
 ) -> u8 {
     let (f, c) = (fixed, changing);
     // SAFETY: one live board; two live slices with their own lengths, only read.
-    unsafe { lent_create(board, layout, mirroring, revision, f.as_ptr(), f.len(), c.as_ptr(), c.len()) }
+    unsafe { vrc6_create(board, layout, mirroring, revision, f.as_ptr(), f.len(), c.as_ptr(), c.len()) }
 }
 
 pub fn clock(board: &mut Board) -> Tick {
     // SAFETY: one live board.
-    unsafe { lent_clock(board) }
+    unsafe { vrc6_clock(board) }
 }
 
 /// The same clock: 1 for a tick, 6 for a refusal (by 3), otherwise 0.
 pub fn clock_number(board: &mut Board) -> u8 {
     // SAFETY: one live board.
-    unsafe { lent_clock_number(board) }
+    unsafe { vrc6_clock_number(board) }
 }
 
 pub fn cpu_read(board: &mut Board, fixed: &[u8], changing: &[u8], addr: u16) -> Peeked {
     // SAFETY: one live board; two live slices with their own lengths, only read.
-    unsafe { lent_cpu_read(board, fixed.as_ptr(), fixed.len(), changing.as_ptr(), changing.len(), addr) }
+    unsafe { vrc6_cpu_read(board, fixed.as_ptr(), fixed.len(), changing.as_ptr(), changing.len(), addr) }
 }
 
 pub fn picture_read(board: &mut Board, fixed: &[u8], changing: &[u8], addr: u16) -> Peeked {
     // SAFETY: one live board; two live slices with their own lengths, only read.
-    unsafe { lent_picture_read(board, fixed.as_ptr(), fixed.len(), changing.as_ptr(), changing.len(), addr) }
+    unsafe { vrc6_picture_read(board, fixed.as_ptr(), fixed.len(), changing.as_ptr(), changing.len(), addr) }
 }
 
 pub fn cpu_write(board: &mut Board, fixed: &[u8], changing: &mut [u8], addr: u16, val: u8) -> u8 {
     let (f, c) = (fixed, changing);
     // SAFETY: one live board; two live slices with their own lengths, the second not aliased and written in place.
-    unsafe { lent_cpu_write(board, f.as_ptr(), f.len(), c.as_mut_ptr(), c.len(), addr, val) }
+    unsafe { vrc6_cpu_write(board, f.as_ptr(), f.len(), c.as_mut_ptr(), c.len(), addr, val) }
 }
 
 pub fn picture_write(board: &mut Board, fixed: &[u8], changing: &mut [u8], addr: u16, val: u8) -> u8 {
     let (f, c) = (fixed, changing);
     // SAFETY: one live board; two live slices with their own lengths, the second not aliased and written in place.
-    unsafe { lent_picture_write(board, f.as_ptr(), f.len(), c.as_mut_ptr(), c.len(), addr, val) }
+    unsafe { vrc6_picture_write(board, f.as_ptr(), f.len(), c.as_mut_ptr(), c.len(), addr, val) }
 }
 
 pub fn reset(board: &mut Board) -> u8 {
     // SAFETY: one live board.
-    unsafe { lent_reset(board) }
+    unsafe { vrc6_reset(board) }
 }
 
 pub fn level(board: &mut Board) -> LevelTold {
     // SAFETY: one live board.
-    unsafe { lent_level(board) }
+    unsafe { vrc6_level(board) }
 }
 
 pub fn forecast(board: &mut Board) -> ForecastTold {
     // SAFETY: one live board.
-    unsafe { lent_forecast(board) }
+    unsafe { vrc6_forecast(board) }
 }
 
 pub fn page_view(board: &mut Board, fixed: &[u8], changing: &[u8], addr: u16) -> PageAt {
     // SAFETY: one live board; two live slices with their own lengths, only read.
-    unsafe { lent_page_view(board, fixed.as_ptr(), fixed.len(), changing.as_ptr(), changing.len(), addr) }
+    unsafe { vrc6_page_view(board, fixed.as_ptr(), fixed.len(), changing.as_ptr(), changing.len(), addr) }
 }

@@ -14,22 +14,22 @@ pub struct Board(pub [u8; 1024]);
 #[rustfmt::skip]
 #[link(name = "lent", kind = "static")]
 unsafe extern "C" {
-    fn lent_create(
+    fn vrc6_create(
         b: *mut Board, layout: Layout, mirroring: u8, revision: u8,
         fixed: *const u8, fixed_len: usize, changing: *const u8, changing_len: usize,
     ) -> u8;
-    fn lent_clock(b: *mut Board) -> Tick;
-    fn lent_level(b: *mut Board) -> Level;
-    fn lent_cpu_read(
+    fn vrc6_clock(b: *mut Board) -> Tick;
+    fn vrc6_level(b: *mut Board) -> Level;
+    fn vrc6_cpu_read(
         b: *mut Board, fixed: *const u8, fixed_len: usize, changing: *const u8, changing_len: usize, a: u16,
     ) -> Byte;
-    fn lent_picture_read(
+    fn vrc6_picture_read(
         b: *mut Board, fixed: *const u8, fixed_len: usize, changing: *const u8, changing_len: usize, a: u16,
     ) -> Byte;
-    fn lent_cpu_write(
+    fn vrc6_cpu_write(
         b: *mut Board, fixed: *const u8, fixed_len: usize, changing: *mut u8, changing_len: usize, a: u16, v: u8,
     ) -> u8;
-    fn lent_picture_write(
+    fn vrc6_picture_write(
         b: *mut Board, fixed: *const u8, fixed_len: usize, changing: *mut u8, changing_len: usize, a: u16, v: u8,
     ) -> u8;
 }
@@ -49,9 +49,9 @@ impl Lent {
         let (m, rev) = (s.mirroring as u8, u8::from(s.rev == Revision::B));
         let (f, c) = (&l.fixed, &l.changing);
         let refusal = unsafe {
-            lent_create(&mut l.board, Layout::of(&s), m, rev, f.as_ptr(), f.len(), c.as_ptr(), c.len())
+            vrc6_create(&mut l.board, Layout::of(&s), m, rev, f.as_ptr(), f.len(), c.as_ptr(), c.len())
         };
-        assert_eq!(refusal, 0, "lent_create refused");
+        assert_eq!(refusal, 0, "vrc6_create refused");
         l
     }
     /// A host with no board, for calls that do nothing.
@@ -66,30 +66,30 @@ impl Lent {
     }
     #[inline(always)]
     pub fn clock(&mut self) -> Tick {
-        unsafe { lent_clock(&mut self.board) }
+        unsafe { vrc6_clock(&mut self.board) }
     }
     #[inline(always)]
     pub fn level(&mut self) -> Level {
-        unsafe { lent_level(&mut self.board) }
+        unsafe { vrc6_level(&mut self.board) }
     }
     #[inline(always)]
     pub fn cpu_read(&mut self, a: u16) -> Byte {
         let (f, c) = (&self.fixed, &self.changing);
-        unsafe { lent_cpu_read(&mut self.board, f.as_ptr(), f.len(), c.as_ptr(), c.len(), a) }
+        unsafe { vrc6_cpu_read(&mut self.board, f.as_ptr(), f.len(), c.as_ptr(), c.len(), a) }
     }
     #[inline(always)]
     pub fn picture_read(&mut self, a: u16) -> Byte {
         let (f, c) = (&self.fixed, &self.changing);
-        unsafe { lent_picture_read(&mut self.board, f.as_ptr(), f.len(), c.as_ptr(), c.len(), a) }
+        unsafe { vrc6_picture_read(&mut self.board, f.as_ptr(), f.len(), c.as_ptr(), c.len(), a) }
     }
     #[inline(always)]
     pub fn cpu_write(&mut self, a: u16, v: u8) -> u8 {
         let (f, c) = (&self.fixed, &mut self.changing);
-        unsafe { lent_cpu_write(&mut self.board, f.as_ptr(), f.len(), c.as_mut_ptr(), c.len(), a, v) }
+        unsafe { vrc6_cpu_write(&mut self.board, f.as_ptr(), f.len(), c.as_mut_ptr(), c.len(), a, v) }
     }
     #[inline(always)]
     pub fn picture_write(&mut self, a: u16, v: u8) -> u8 {
         let (f, c) = (&self.fixed, &mut self.changing);
-        unsafe { lent_picture_write(&mut self.board, f.as_ptr(), f.len(), c.as_mut_ptr(), c.len(), a, v) }
+        unsafe { vrc6_picture_write(&mut self.board, f.as_ptr(), f.len(), c.as_mut_ptr(), c.len(), a, v) }
     }
 }

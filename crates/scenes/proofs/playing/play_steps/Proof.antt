@@ -1,6 +1,6 @@
 -- `play_steps` is safe and ends. Assumes nothing.
 use mathlib.Core.Path.{sym, _∙_}
-use Rattle.layout.proofs.Limited.{limits}
+use Rattle.memory_layout.proofs.Limited.{limits}
 use borrow.Author.Needs.{needs}
 use Rattle.scenes.proofs.playing.play_steps.Statement.{statement}
 use Rattle.scenes.proofs.playing.play_steps.Tie as tie

@@ -8,10 +8,10 @@ use denote.Ref.{now}
 use lib.Dec.{eqb}
 use lib.ListN.{length, take}
 use borrow.Author.Tests.{eqb-true}
-use Rattle.basics.specs.Refusals.{firstFailing}
-use Rattle.basics.proofs.Tests.{first-refused, and-left}
-use Rattle.basics.proofs.Numbers.{none-fails, decided-behind}
-use Rattle.layout.specs.Layout.{layoutChecks, fixedLength, changingLength}
+use Rattle.base_shared.specs.Refusals.{firstFailing}
+use Rattle.base_shared.proofs.Tests.{first-refused, and-left}
+use Rattle.base_shared.proofs.Numbers.{none-fails, decided-behind}
+use Rattle.memory_layout.specs.Layout.{layoutChecks, fixedLength, changingLength}
 use Rattle.vrc6.specs.Checks.{allZero, creationRefusal}
 use borrow.Author.Needs.{needs}
 use Rattle.vrc6.proofs.create.create_refusal.Statement.{statement}

@@ -1,7 +1,7 @@
 -- `reached` meets its contract. Assumes nothing.
 use mathlib.Core.Path.{_≡_, sym, ap, _∙_}
-use Rattle.decode.specs.declared.Register.{Register}
-use Rattle.decode.proofs.Both.{nothing-law}
+use Rattle.registers.specs.declared.Register.{Register}
+use Rattle.registers.proofs.Both.{nothing-law}
 use Rattle.vrc6.specs.Calls.{partOf}
 use borrow.Author.Needs.{needs}
 use Rattle.vrc6.proofs.writes.reached.Statement.{statement}
@@ -35,7 +35,7 @@ returns-4 : tie.Need-returns-4
 returns-4 c = ap partOf (sym (c .before .line .given .1) ∙ c .before .before .before .decode .ensures)
 
 returns-5 : tie.Need-returns-5
-returns-5 c = let a = c .before .args in sym (ap partOf (nothing-law .low (a .revision) (a .addr) (c .if1 .left)))
+returns-5 c = let a = c .before .args in sym (ap partOf (nothing-law .low (a .revision-b) (a .addr) (c .if1 .left)))
 
 pub reached-spec : {M : Type 1} → statement M
 reached-spec =

@@ -3,9 +3,9 @@ use mathlib.Core.Path.{_≡_, sym, ap, _∙_}
 use mathlib.Core.Bool.{Bool}
 use lib.ListN.{length}
 use denote.Ref.{now}
-use Rattle.basics.proofs.Tests.{unless-refused, unless-done}
-use Rattle.memory.specs.Access.{accessRefusal, stored}
-use Rattle.memory.proofs.Accepted.{placed}
+use Rattle.base_shared.proofs.Tests.{unless-refused, unless-done}
+use Rattle.memory_access.specs.Access.{accessRefusal, stored}
+use Rattle.memory_access.proofs.Accepted.{placed}
 use Rattle.vrc6.specs.Checks.{valuesInRange}
 use borrow.Author.Needs.{needs}
 use Rattle.vrc6.proofs.writes.write_byte.Statement.{statement}

@@ -1,8 +1,8 @@
 -- `Board::cpu_page` meets its contract. Assumes nothing.
 use mathlib.Core.Path.{_≡_, ap, _∙_}
-use Rattle.layout.specs.Pages.{serving}
-use Rattle.layout.proofs.Entries.{lookup-law}
-use Rattle.paging.specs.Paging.{cpu}
+use Rattle.memory_layout.specs.Pages.{serving}
+use Rattle.memory_layout.proofs.Entries.{lookup-law}
+use Rattle.memory_tables.specs.Paging.{cpu}
 use Rattle.vrc6.specs.Boards.{entryOf}
 use borrow.Author.Needs.{needs}
 use Rattle.vrc6.proofs.board.Board.cpu_page.Statement.{statement}

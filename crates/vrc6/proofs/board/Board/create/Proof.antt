@@ -2,7 +2,7 @@
 use mathlib.Core.Path.{_≡_, sym, ap, ap₂, _∙_}
 use denote.Ref.{now}
 use Prim.Native.Nat.{ℕ}
-use Rattle.layout.proofs.Limited.{limits}
+use Rattle.memory_layout.proofs.Limited.{limits}
 use Rattle.vrc6.specs.Boards.{Creation}
 use Rattle.vrc6.specs.Checks.{creationRefusal}
 use Rattle.vrc6.proofs.Creations.{within, created-refused, created}

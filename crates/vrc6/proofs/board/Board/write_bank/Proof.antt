@@ -1,7 +1,7 @@
 -- `Board::write_bank` meets its contract. Assumes nothing.
 use mathlib.Core.Path.{_≡_, sym, _∙_}
 use mathlib.Core.Bool.{true, false}
-use Rattle.layout.proofs.Limited.{limits}
+use Rattle.memory_layout.proofs.Limited.{limits}
 use Rattle.vrc6.proofs.Stores.{taken}
 use borrow.Author.Needs.{needs}
 use Rattle.vrc6.proofs.board.Board.write_bank.Statement.{statement}

@@ -1,6 +1,6 @@
 -- `Board::write_banks` meets its contract. Assumes nothing.
 use mathlib.Core.Path.{_≡_, sym, ap, _∙_}
-use Rattle.decode.specs.declared.Register.{Register}
+use Rattle.registers.specs.declared.Register.{Register}
 use Rattle.vrc6.specs.Calls.{banksTaken}
 use borrow.Author.Needs.{needs}
 use Rattle.vrc6.proofs.board.Board.write_banks.Statement.{statement}

@@ -3,7 +3,7 @@ use mathlib.Core.Path.{_≡_, sym, subst, _∙_}
 use mathlib.Core.Bool.{Bool, not}
 use Prim.Native.Nat.{ℕ}
 use lib.Dec.{T, eqb}
-use Rattle.decode.specs.Decode.{decode}
+use Rattle.registers.specs.Decode.{decode}
 use Rattle.vrc6.proofs.Stores.{of-banks, of-audio, of-irq, of-none}
 use borrow.Author.Tests.{eq-eqb, ne-eqb}
 use borrow.Author.Needs.{needs}
@@ -26,7 +26,7 @@ returns : tie.Need-returns
 returns c =
     let r = c .before .before in
     let a = r .before .before .args in
-    c .write-banks .ensures ∙ of-banks _ (a .val) (a .self) (decode (a .self .banking .revision) (a .addr)) (r .reached .ensures) (is _ 1 (c .before .if1 .taken))
+    c .write-banks .ensures ∙ of-banks _ (a .val) (a .self) (decode (a .self .banking .«revision_b») (a .addr)) (r .reached .ensures) (is _ 1 (c .before .if1 .taken))
 
 write-sound-requires : tie.Need-write-sound-requires
 write-sound-requires c κs = search needs
@@ -35,7 +35,7 @@ returns-2 : tie.Need-returns-2
 returns-2 c =
     let r = c .before .before .before in
     let a = r .before .before .args in
-    c .write-sound .ensures ∙ of-audio _ (a .val) (a .self) (decode (a .self .banking .revision) (a .addr)) (r .reached .ensures) (is _ 2 (c .before .if2 .taken))
+    c .write-sound .ensures ∙ of-audio _ (a .val) (a .self) (decode (a .self .banking .«revision_b») (a .addr)) (r .reached .ensures) (is _ 2 (c .before .if2 .taken))
 
 write-line-requires : tie.Need-write-line-requires
 write-line-requires c κs = search needs
@@ -44,13 +44,13 @@ returns-3 : tie.Need-returns-3
 returns-3 c =
     let r = c .before .before .before .before in
     let a = r .before .before .args in
-    c .write-line .ensures ∙ of-irq _ (a .val) (a .self) (decode (a .self .banking .revision) (a .addr)) (r .reached .ensures) (is _ 3 (c .before .if3 .taken))
+    c .write-line .ensures ∙ of-irq _ (a .val) (a .self) (decode (a .self .banking .«revision_b») (a .addr)) (r .reached .ensures) (is _ 3 (c .before .if3 .taken))
 
 returns-4 : tie.Need-returns-4
 returns-4 c =
     let r = c .before .before .before in
     let a = r .before .before .args in
-    of-none _ (a .val) (a .self) (decode (a .self .banking .revision) (a .addr)) (r .reached .ensures) (is-not _ 1 (c .before .before .if1 .left)) (is-not _ 2 (c .before .if2 .left)) (is-not _ 3 (c .if3 .left))
+    of-none _ (a .val) (a .self) (decode (a .self .banking .«revision_b») (a .addr)) (r .reached .ensures) (is-not _ 1 (c .before .before .if1 .left)) (is-not _ 2 (c .before .if2 .left)) (is-not _ 3 (c .if3 .left))
 
 pub write-register-spec : {M : Type 1} → statement M
 write-register-spec =

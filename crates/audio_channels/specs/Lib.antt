@@ -1,0 +1,5 @@
+pub mod Channels
+pub mod Pulses
+pub mod Saws
+pub mod Ranges
+pub mod Required

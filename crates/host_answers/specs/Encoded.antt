@@ -1,0 +1,111 @@
+-- What the lent forms answer beside the board that they advance (01, "The board's calls"). Assumes nothing.
+use mathlib.Core.Bool.{Bool, true, false, cond, _&&_}
+use mathlib.Core.List.{List, [], _∷_, _++_}
+use Prim.Native.Nat.{ℕ, zero, suc, _-_}
+use lib.Dec.{eqb, leb}
+use lib.Ieee.{binary32, ofBits}
+use lib.ListN.{length, take}
+use Rattle.base_shared.specs.Refusals.{firstFailing, unless}
+use Rattle.memory_layout.specs.declared.regions.MemoryLayout.{MemoryLayout}
+use Rattle.memory_layout.specs.Layout.{layoutChecks}
+use Rattle.memory_layout.specs.Pages.{offset as offsetOf}
+use Rattle.memory_tables.specs.Paging.{picture}
+use Rattle.vrc6_slots.specs.declared.Mirroring.{Mirroring}
+use Rattle.vrc6_slots.specs.declared.Mirroring.the-variants.{Vertical, Horizontal, SingleScreenA, SingleScreenB, FourScreen}
+use Rattle.vrc6_banking.specs.declared.banking.Revision.{Revision}
+use Rattle.vrc6_banking.specs.declared.banking.Revision.the-variants.{A, B}
+use Rattle.audio.specs.declared.Level.{Level}
+use Rattle.audio.specs.declared.Level.the-variants.{Silent, Held, Playing, Refused as NoLevel}
+use Rattle.irq.specs.Timing.{clockAnswer}
+use Rattle.audio.specs.Sound.{withTimers}
+use Rattle.vrc6.specs.declared.board.Board.{Board}
+use Rattle.vrc6.specs.declared.board.Clocked.{Clocked}
+use Rattle.vrc6.specs.declared.board.Created.{Created}
+use Rattle.vrc6_engine.specs.declared.steady.Steady.{Steady}
+use Rattle.vrc6_engine.specs.declared.answers.Forecast.{Forecast}
+use Rattle.vrc6_engine.specs.declared.answers.Forecast.the-variants.{None, In, Refused}
+use Rattle.vrc6.specs.Boards.{State, entryOf, withEngine, zeroBoard}
+use Rattle.vrc6.specs.Checks.{allZero}
+use Rattle.vrc6.specs.Calls.{clock, create, pageViewRefusal}
+use Rattle.host_answers.specs.declared.EncodedLevel.{EncodedLevel}
+use Rattle.host_answers.specs.declared.EncodedForecast.{EncodedForecast}
+use Rattle.host_answers.specs.declared.PageAt.{PageAt}
+use Rattle.host_answers.specs.declared.Numbered.{Numbered}
+
+-- ---- create, by numbers
+-- the mirroring of a number, in the Rust's order
+abbrev pub mirroringNumbered : ℕ → Mirroring
+mirroringNumbered zero = Vertical
+mirroringNumbered (suc zero) = Horizontal
+mirroringNumbered (suc (suc zero)) = SingleScreenA
+mirroringNumbered (suc (suc (suc zero))) = SingleScreenB
+mirroringNumbered (suc (suc (suc (suc n)))) = FourScreen
+
+-- the revision of a number
+abbrev pub revisionNumbered : ℕ → Revision
+revisionNumbered zero = A
+revisionNumbered (suc n) = B
+
+-- both numbers name something
+abbrev pub numbersNamed : (mirroring revision : ℕ) → Bool
+numbersNamed m r = leb m 4 && leb r 1
+
+-- the first failing of 1, 2, 3 and 4; here 3 is a number that names nothing
+abbrev pub numberedRefusal : MemoryLayout → (mirroring revision : ℕ) → (fixed changing : List ℕ) → ℕ
+numberedRefusal l m r fixed changing =
+    firstFailing (layoutChecks l (length fixed) (length changing) ++ (numbersNamed m r, 3) ∷ (allZero (take 1024 fixed), 4) ∷ [])
+
+-- the board that `create` makes of what the numbers name, or refused the all-zero one, and the number
+abbrev pub createdBy : MemoryLayout → (mirroring revision : ℕ) → (fixed changing : List ℕ) → Created
+createdBy l m r fixed changing =
+    record {
+      board =
+          unless (numberedRefusal l m r fixed changing)
+          (create (record { layout = l; mirroring = mirroringNumbered m; revision = revisionNumbered r; fixed = fixed; changing = changing }) .board)
+          zeroBoard;
+      refusal = numberedRefusal l m r fixed changing;
+    }
+
+-- ---- level and forecast, told in numbers
+-- a level; refused it is 0.0 and silent, with the number
+abbrev pub levelEncoded : Level → EncodedLevel
+levelEncoded (Silent x) = record { level = x; name = 0; refusal = 0 }
+levelEncoded (Held x) = record { level = x; name = 1; refusal = 0 }
+levelEncoded (Playing x) = record { level = x; name = 2; refusal = 0 }
+levelEncoded (NoLevel n) = record { level = ofBits binary32 0; name = 0; refusal = n }
+
+-- a forecast; where there is none, or it is refused, the clocks are 0
+abbrev pub forecastEncoded : Forecast → EncodedForecast
+forecastEncoded None = record { clocks = 0; armed = false; refusal = 0 }
+forecastEncoded (In n) = record { clocks = n; armed = true; refusal = 0 }
+forecastEncoded (Refused n) = record { clocks = 0; armed = false; refusal = n }
+
+-- ---- page view, told as a place
+-- where the picture entry of an address points, counted in its own buffer: in the fixed one up to that one's length, from there on in the changing one
+abbrev pub pageAt : State → (address : ℕ) → PageAt
+pageAt x address =
+    let at = offsetOf (entryOf picture (x .board) address) in
+    let behind = leb (length (x .fixed)) at in
+    record {
+      offset = unless (pageViewRefusal x address) (cond behind (at - length (x .fixed)) at) 0;
+      changing = unless (pageViewRefusal x address) behind false;
+      refusal = pageViewRefusal x address;
+    }
+
+-- ---- clock
+-- a clock's answer as one number: 1 for a tick, 6 for a refusal, which is by 3, otherwise 0
+abbrev pub tickNumber : (ticked : Bool) → (refusal : ℕ) → ℕ
+tickNumber ticked refusal = cond ticked 1 (cond (eqb refusal 0) 0 6)
+
+-- a clock, its answer as that number
+abbrev pub clockNumbered : Board → Numbered
+clockNumbered b = record { board = clock b .board; number = tickNumber (clock b .ticked) (clock b .refusal) }
+
+-- a clock that is not refused, and moves of the sound the timers only, to these
+abbrev pub steadyClocked : Board → Steady → Clocked
+steadyClocked b s =
+    record {
+      board = withEngine b (clockAnswer (b .irq) .irq) (withTimers (b .audio) (s .timer1) (s .timer2) (s .timer3));
+      ticked = clockAnswer (b .irq) .ticked;
+      refusal = 0;
+    }

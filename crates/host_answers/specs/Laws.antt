@@ -1,0 +1,29 @@
+-- Laws of what the lent forms answer, for every board, buffer and number; `proofs/` proves them. Assumes nothing.
+use mathlib.Core.Path.{_≡_}
+use mathlib.Core.Bool.{cond}
+use mathlib.Core.List.{List}
+use Prim.Native.Nat.{ℕ, _+_, _≤_}
+use lib.ListN.{length, take, drop}
+use Rattle.base_shared.specs.Rows.{flag}
+use Rattle.vrc6_banking.specs.Banking.{mirroringNumber, isB}
+use Rattle.vrc6.specs.Boards.{State, Creation}
+use Rattle.vrc6.specs.Calls.{create, pageView, pageViewRefusal}
+use Rattle.host_answers.specs.Encoded.{createdBy, pageAt}
+
+-- creation by the numbers of a mirroring and a revision is creation by these
+abbrev pub CreateNumberedLaw : Type 0
+CreateNumberedLaw =
+    (c : Creation) → createdBy (c .layout) (mirroringNumber (c .mirroring)) (flag (isB (c .revision))) (c .fixed) (c .changing) ≡ create c
+
+-- the buffer that a page is told to lie in
+abbrev pub bufferOf : State → (address : ℕ) → List ℕ
+bufferOf x address = cond (pageAt x address .changing) (x .changing) (x .fixed)
+
+-- at the place told lie the 1,024 bytes that the view shows
+pub record PagePlaced (x : State) (address : ℕ) : Type 0 where
+  pub shows : pageView x address ≡ take 1024 (drop (pageAt x address .offset) (bufferOf x address))
+  pub inside : pageAt x address .offset + 1024 ≤ length (bufferOf x address)
+
+-- of every view that is not refused
+abbrev pub PageLaw : Type 0
+PageLaw = (x : State) (address : ℕ) → pageViewRefusal x address ≡ 0 → PagePlaced x address

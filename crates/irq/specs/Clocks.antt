@@ -1,0 +1,29 @@
+-- A run of clocks, and the first of them that sets pending. Assumes nothing.
+use mathlib.Core.Path.{_≡_}
+use mathlib.Core.Bool.{Bool, true, false, _&&_}
+use Prim.Native.Nat.{ℕ, suc, _≤_, _<_}
+use lib.Dec.{eqb}
+use Rattle.base_steps.specs.Times.{times, count}
+use Rattle.irq.specs.declared.VrcIrq.{VrcIrq}
+use Rattle.irq.specs.Interrupt.{irqTicks, irqAnswer}
+
+-- the state after n clocks
+abbrev pub irqClockedTimes : (d l n : ℕ) → VrcIrq → VrcIrq
+irqClockedTimes d l n q = times n (λ s. irqAnswer d l s .irq) q
+
+-- how many of n clocks answer that they ticked
+abbrev pub reported : (d l n : ℕ) → VrcIrq → ℕ
+reported d l n q = count n (λ s. irqAnswer d l s .ticked) (λ s. irqAnswer d l s .irq) q
+
+-- the next clock ticks at 255, and so sets pending (01, Interrupt)
+abbrev pub irqSets : (d : ℕ) → VrcIrq → Bool
+irqSets d q = irqTicks d q && eqb (q .counter) 255
+
+-- n is the least number of clocks, at least 1, of which the last sets pending (what a forecast means: 01, The board's calls)
+pub record LeastClocks (d l : ℕ) (q : VrcIrq) (n : ℕ) : Type 0 where
+  -- a clock is needed
+  pub one : 1 ≤ n
+  -- the last of the n clocks sets pending
+  pub sets : (m : ℕ) → suc m ≡ n → irqSets d (irqClockedTimes d l m q) ≡ true
+  -- none of those before it does
+  pub none-before : (m : ℕ) → suc m < n → irqSets d (irqClockedTimes d l m q) ≡ false

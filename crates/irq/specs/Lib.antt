@@ -1,0 +1,4 @@
+pub mod Interrupt
+pub mod Timing
+pub mod Clocks
+pub mod Laws

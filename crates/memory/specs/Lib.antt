@@ -1,3 +1,0 @@
-pub mod Access
-pub mod Inner
-pub mod Laws

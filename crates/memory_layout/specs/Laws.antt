@@ -1,0 +1,22 @@
+-- Laws of entries, for every entry and every layout; `proofs/` proves them. Assumes nothing.
+use mathlib.Core.Path.{_≡_}
+use mathlib.Core.Bool.{Bool, true, false}
+use Prim.Native.Nat.{ℕ, _^_, _<_}
+use Rattle.memory_layout.specs.declared.page.Page.{Page}
+use Rattle.memory_layout.specs.declared.regions.MemoryLayout.{MemoryLayout}
+use Rattle.memory_layout.specs.Pages.{entry, unmapped, offset, writable, spare, found, serving}
+use Rattle.memory_layout.specs.Entries.{entryInRange}
+
+-- an entry gives back the offset, where it is below 2 ^ 30, and the mark that it was made of
+pub record EntryLaw : Type 0 where
+  pub offset-is : (at : ℕ) (w : Bool) → at < 2 ^ 30 → offset (entry at w) ≡ at
+  pub writable-is : (at : ℕ) (w : Bool) → writable (entry at w) ≡ w
+  pub spare-clear : (at : ℕ) (w : Bool) → spare (entry at w) ≡ false
+
+-- the unmapped entry is one that the boards of every layout can hold
+abbrev pub UnmappedLaw : Type 0
+UnmappedLaw = (l : MemoryLayout) → entryInRange l unmapped ≡ true
+
+-- a lookup loses nothing: it stands for the entry that it was made of
+abbrev pub LookupLaw : Type 0
+LookupLaw = (e : Page) → serving (found e) ≡ e

@@ -1,0 +1,5 @@
+pub mod Pages
+pub mod Layout
+pub mod Entries
+pub mod Required
+pub mod Laws

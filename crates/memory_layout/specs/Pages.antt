@@ -1,0 +1,42 @@
+-- A page entry: where in the buffers its 1,024 bytes begin, and whether they take writes (01, Records; memory.rs, `Page`).
+-- Other definitions touch an entry only through these. Assumes nothing.
+use mathlib.Core.Bool.{Bool, cond}
+use Prim.Native.Nat.{ℕ, _+_, _%_, _^_}
+use lib.Dec.{eqb}
+use Rattle.base_shared.specs.Bits.{bit}
+use Rattle.memory_layout.specs.declared.page.Page.{Page}
+use Rattle.memory_layout.specs.declared.page.Lookup.{Lookup}
+use Rattle.memory_layout.specs.declared.page.Lookup.the-variants.{Unmapped, Mapped}
+
+-- the entry of an offset: bits 0 to 29 the offset, bit 31 writable (01, Records; `Page::new`)
+abbrev pub entry : (at : ℕ) → Bool → Page
+entry at w = record { 0 = cond w (at % 2 ^ 30 + 2 ^ 31) (at % 2 ^ 30) }
+
+-- unmapped is 0 (01, Records)
+abbrev pub unmapped : Page
+unmapped = record { 0 = 0 }
+
+-- the entry is the unmapped one
+abbrev pub isUnmapped : Page → Bool
+isUnmapped e = eqb (e .0) 0
+
+-- bits 0 to 29 (01, Records; `Page::offset`)
+abbrev pub offset : Page → ℕ
+offset e = (e .0) % 2 ^ 30
+
+-- bit 31 (01, Records; `Page::is_writable`)
+abbrev pub writable : Page → Bool
+writable e = bit 31 (e .0)
+
+-- bit 30, which no entry of a board has set (01, "The board's calls")
+abbrev pub spare : Page → Bool
+spare e = bit 30 (e .0)
+
+-- what a lookup says of an entry: nothing is there if it is unmapped, and otherwise the entry
+abbrev pub found : Page → Lookup
+found e = cond (isUnmapped e) Unmapped (Mapped e)
+
+-- the entry that a lookup stands for: the one that it found, or the unmapped one
+abbrev pub serving : Lookup → Page
+serving Unmapped = unmapped
+serving (Mapped e) = e

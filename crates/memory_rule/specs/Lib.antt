@@ -1,0 +1,4 @@
+pub mod Rule
+pub mod Required
+pub mod Laws
+pub mod Positions

@@ -1,4 +1,0 @@
-pub mod Rule
-pub mod Inner
-pub mod Laws
-pub mod Positions

@@ -1,0 +1,22 @@
+-- The examples, computed. Assumes nothing.
+use mathlib.Core.Path.{refl}
+use Rattle.scene_cells.specs.Cells.{plainCell, quotedCell}
+use Rattle.scene_cells.specs.Choices.{mirroringOf, revisionOf}
+use Rattle.scene_cells.specs.Columns.{columnOf}
+use Rattle.scene_cells.specs.Laws.{CellExamples}
+
+pub examples : CellExamples
+unfolding columnOf mirroringOf plainCell quotedCell revisionOf
+examples =
+    record {
+      plain = refl;
+      row-end = refl;
+      unclosed = refl;
+      behind-quote = refl;
+      column = refl;
+      no-column = refl;
+      revision = refl;
+      no-revision = refl;
+      mirroring = refl;
+      no-mirroring = refl;
+    }

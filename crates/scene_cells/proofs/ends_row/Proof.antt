@@ -1,0 +1,17 @@
+-- `ends_row` meets its contract. Assumes nothing.
+use borrow.Author.Needs.{needs}
+use Rattle.scene_cells.proofs.Held.{row-byte, row-end}
+use Rattle.scene_cells.proofs.ends_row.Statement.{statement}
+use Rattle.scene_cells.proofs.ends_row.Tie as tie
+
+shared-slice-read-result : tie.Need-shared-slice-read-result
+shared-slice-read-result c = search needs
+
+returns : tie.Need-returns
+returns c = row-byte _ _ (c .before .if1 .taken)
+
+returns-2 : tie.Need-returns-2
+returns-2 c = row-end _ _ (c .if1 .left)
+
+pub ends-row-spec : {M : Type 1} → statement M
+ends-row-spec = tie.close (tie.spec shared-slice-read-result returns returns-2)

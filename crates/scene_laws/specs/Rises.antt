@@ -1,0 +1,59 @@
+-- The calls of a run in which a handler is played, and the clock after which the interrupt is pending (docs/SCENES.md). Assumes nothing.
+use mathlib.Core.Path.{_≡_}
+use mathlib.Core.Bool.{Bool, false, cond}
+use mathlib.Core.List.{List, [], _∷_, _++_}
+use mathlib.Core.Option.{Option, none, some}
+use Prim.Native.Nat.{ℕ, _+_, _≤_, _<_}
+use lib.ListN.{replicate}
+use Rattle.irq.specs.declared.VrcIrq.{VrcIrq}
+use Rattle.irq.specs.Timing.{lineStep, lineLength}
+use Rattle.irq.specs.Clocks.{irqClockedTimes}
+use Rattle.vrc6_calls.specs.declared.Call.{Call}
+use Rattle.vrc6_calls.specs.declared.Call.the-variants.{Clock}
+use Rattle.vrc6.specs.Boards.{State}
+use Rattle.vrc6_calls.specs.Lists.{next}
+use Rattle.vrc6_ledger.specs.Ledger.{Event, cpuWrites, pictureWrites, clocks, resets, looks, event}
+use Rattle.vrc6_ledger.specs.Demand3.{weight}
+use Rattle.scene_board.specs.Played.{callsOf}
+use Rattle.scene_moments.specs.declared.moment.Came.{Came}
+use Rattle.scene_moments.specs.declared.moment.Came.the-variants.{Never, On}
+use Rattle.scene_moments.specs.Moments.{came, clocksDue, dueWithin, moment}
+
+-- ---- the calls
+-- of k clocks, then a handler, then m clocks
+abbrev pub callsAround : (k : ℕ) → List ℕ → (m : ℕ) → List Call
+callsAround k codes m = replicate k Clock ++ (callsOf codes ++ replicate m Clock)
+
+-- a call whose byte for a register is a byte
+abbrev pub ByteEvent : Event → Type 0
+ByteEvent (cpuWrites a v) = v ≤ 255
+ByteEvent (pictureWrites a v) = Unit {0}
+ByteEvent (clocks n) = Unit {0}
+ByteEvent resets = Unit {0}
+ByteEvent looks = Unit {0}
+
+-- the same of a call
+abbrev pub OfByte : Call → Type 0
+OfByte k = ByteEvent (event k)
+
+-- ---- on the board
+-- the first call after which pending is set: how many clocks there are up to and with it, counted on from n
+abbrev pub risesAt : State → List Call → (n : ℕ) → Option ℕ
+risesAt x [] n = none
+risesAt x (k ∷ ks) n =
+    cond (next x k .board .irq .«irq_pending») (some (n + weight (event k))) (risesAt (next x k) ks (n + weight (event k)))
+
+-- ---- by the counter
+-- pending is clear, and no interrupt is due within k clocks
+pub record Waits (q : VrcIrq) (k : ℕ) : Type 0 where
+  pub clear : q .«irq_pending» ≡ false
+  pub not-yet : dueWithin k (clocksDue q) ≡ false
+
+-- what `came_after` says of a handler that runs k clocks after the counter stood so
+abbrev pub cameAt : (revisionB : Bool) → VrcIrq → (k : ℕ) → List ℕ → Came
+cameAt b q k codes = came b codes (moment (irqClockedTimes lineStep lineLength k q) k)
+
+-- what a run of n clocks finds where the interrupt comes so: its clock, if the run gets that far
+abbrev pub RiseFound : Came → (n : ℕ) → Option ℕ → Type 0
+RiseFound Never n r = r ≡ none
+RiseFound (On t) n r = (t ≤ n → r ≡ some t) × (n < t → r ≡ none)

@@ -1,0 +1,27 @@
+-- `verdict_of` meets its contract. Assumes nothing.
+use borrow.Author.Needs.{needs}
+use Rattle.scene_moments.proofs.verdict.verdict_of.Statement.{statement}
+use Rattle.scene_moments.proofs.verdict.verdict_of.Tie as tie
+
+enum-told : tie.Need-enum-told
+enum-told c = search needs
+
+enum-known-came : tie.Need-enum-known-came
+enum-known-came c = search needs
+
+line-of-requires : tie.Need-line-of-requires
+line-of-requires c κs = search needs
+
+on-line-requires : tie.Need-on-line-requires
+on-line-requires c κs = search needs
+
+returns : tie.Need-returns
+returns c = simp (c .enum-told .given .1)
+
+returns-2 : tie.Need-returns-2
+returns-2 c = simp (c .on-line .ensures, c .before .line-of .ensures, c .before .before .before .came .given .1)
+
+pub verdict-of-spec : {M : Type 1} → statement M
+verdict-of-spec =
+    tie.close
+    (tie.spec enum-told enum-known-came line-of-requires on-line-requires returns returns-2)

@@ -1,0 +1,17 @@
+-- `badness` meets its contract. Assumes nothing.
+use borrow.Author.Tests.{eq-eqb, ne-eqb}
+use borrow.Author.Needs.{needs}
+use Rattle.scene_sweep.proofs.tally.badness.Statement.{statement}
+use Rattle.scene_sweep.proofs.tally.badness.Tie as tie
+
+returns : tie.Need-returns
+returns c = rw (eq-eqb _ _ (c .if1 .taken))
+
+cast-result : tie.Need-cast-result
+cast-result c = search needs
+
+returns-2 : tie.Need-returns-2
+returns-2 c = rw (ne-eqb _ _ (c .before .if1 .left))
+
+pub badness-spec : {M : Type 1} → statement M
+badness-spec = tie.close (tie.spec returns cast-result returns-2)

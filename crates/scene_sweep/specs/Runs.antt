@@ -1,0 +1,42 @@
+-- Runs of clocks at which the menu has one verdict (docs/SCENES.md). Assumes nothing.
+use mathlib.Core.Path.{_≡_}
+use mathlib.Core.Bool.{Bool, true, false, _&&_}
+use mathlib.Core.List.{List}
+use mathlib.Core.Logic.{_⊎_}
+use Prim.Native.Nat.{ℕ, _-_, _≤_, _<_}
+use lib.Dec.{eqb}
+use Rattle.irq.specs.declared.VrcIrq.{VrcIrq}
+use Rattle.irq.specs.Timing.{lineStep, lineLength}
+use Rattle.irq.specs.Clocks.{irqClockedTimes}
+use Rattle.scene_sweep.specs.declared.runs.Sweep.{Sweep}
+use Rattle.scene_sweep.specs.declared.runs.Run.{Run}
+use Rattle.scene_moments.specs.declared.verdict.Verdict.{Verdict}
+use Rattle.scene_moments.specs.Moments.{came, moment}
+use Rattle.scene_moments.specs.Verdicts.{verdictOf}
+
+-- the verdict if the menu runs at clock k, which leaves the counter so
+abbrev pub verdictAt : Sweep → List ℕ → VrcIrq → (k : ℕ) → Verdict
+verdictAt s menu q k = verdictOf (came (s .«revision_b») menu (moment q k)) (s .prescaler) (s .window)
+
+-- the verdict at clock k of a sweep, from the counter at clock 0
+abbrev pub verdictIn : Sweep → List ℕ → VrcIrq → (k : ℕ) → Verdict
+verdictIn s menu q k = verdictAt s menu (irqClockedTimes lineStep lineLength k q) k
+
+-- the verdict at clock j, from the counter at an earlier clock
+abbrev pub verdictFrom : Sweep → List ℕ → VrcIrq → (from j : ℕ) → Verdict
+verdictFrom s menu q from j = verdictAt s menu (irqClockedTimes lineStep lineLength (j - from) q) j
+
+-- the same line and the same mark: of verdicts of one sweep, the same verdict
+abbrev pub sameVerdict : Verdict → Verdict → Bool
+sameVerdict a b = eqb (a .line) (b .line) && eqb (a .mark) (b .mark)
+
+-- the run of a sweep of n clocks that starts at a clock
+pub record RunOf (s : Sweep) (menu : List ℕ) (q : VrcIrq) (from n : ℕ) (r : Run) : Type 0 where
+  pub onward : from < r .to
+  pub within : r .to ≤ n
+  -- every clock of it has that verdict
+  pub same : (j : ℕ) → from ≤ j → j < r .to → verdictFrom s menu q from j ≡ r .verdict
+  -- it ends with the sweep, or where the verdict is another
+  pub ends : (r .to ≡ n) ⊎ (verdictFrom s menu q from (r .to) ≡ r .verdict → ⊥)
+  -- the counter behind it
+  pub counter : r .irq ≡ irqClockedTimes lineStep lineLength (r .to - from) q

@@ -1,0 +1,13 @@
+-- `reset_call` meets its contract. Assumes nothing.
+use borrow.Author.Tests.{eq-eqb, ne-eqb}
+use Rattle.script_lines.proofs.line.reset_call.Statement.{statement}
+use Rattle.script_lines.proofs.line.reset_call.Tie as tie
+
+returns : tie.Need-returns
+returns c = simp (eq-eqb _ _ (c .if1 .taken))
+
+returns-2 : tie.Need-returns-2
+returns-2 c = simp (ne-eqb _ _ (c .if1 .left))
+
+pub reset-call-spec : {M : Type 1} → statement M
+reset-call-spec = tie.close (tie.spec returns returns-2)

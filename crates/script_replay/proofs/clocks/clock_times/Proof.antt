@@ -1,0 +1,50 @@
+-- `clock_times` is safe and ends. Assumes nothing.
+use Prim.Native.Nat.{_≤_, _-_}
+use borrow.Author.Needs.{needs}
+use Rattle.script_replay.proofs.clocks.clock_times.Statement.{statement}
+use Rattle.script_replay.proofs.clocks.clock_times.Tie as tie
+
+abbrev Inv-loop : tie.InvT-loop
+Inv-loop n done₀ k₀ done k = k ≤ n
+
+abbrev μ-loop : tie.MeasureT-loop
+μ-loop n done₀ k₀ done k = n - k
+
+new-requires : tie.Need-new-requires Inv-loop μ-loop
+new-requires c κs = search needs
+
+loop-holds : tie.Need-loop-holds Inv-loop μ-loop
+loop-holds c = search needs
+
+add-k : tie.Need-add-k Inv-loop μ-loop
+add-k c = search needs
+
+clock-requires : tie.Need-clock-requires Inv-loop μ-loop
+clock-requires c κs = search needs
+
+returns : tie.Need-returns Inv-loop μ-loop
+returns c = search needs
+
+loop-less : tie.Need-loop-less Inv-loop μ-loop
+loop-less c = search needs
+
+loop-again : tie.Need-loop-again Inv-loop μ-loop
+loop-again c = search needs
+
+returns-2 : tie.Need-returns-2 Inv-loop μ-loop
+returns-2 c = search needs
+
+pub clock-times-spec : {M : Type 1} → statement M
+clock-times-spec =
+    tie.close
+    (tie.spec
+    Inv-loop
+    μ-loop
+    new-requires
+    loop-holds
+    add-k
+    clock-requires
+    returns
+    loop-less
+    loop-again
+    returns-2)

@@ -1,4 +1,0 @@
-pub mod Tables
-pub mod Inner
-pub mod Laws
-pub mod Positions

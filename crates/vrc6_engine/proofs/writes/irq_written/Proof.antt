@@ -1,0 +1,52 @@
+-- `irq_written` meets its contract. Assumes nothing.
+use mathlib.Core.Path.{_≡_, sym, ap, _∙_}
+use Rattle.registers.specs.declared.Register.{Register}
+use Rattle.vrc6_engine.specs.Writes.{irqAfter}
+use borrow.Author.Needs.{needs}
+use Rattle.vrc6_engine.proofs.writes.irq_written.Statement.{statement}
+use Rattle.vrc6_engine.proofs.writes.irq_written.Tie as tie
+
+decode-requires : tie.Need-decode-requires
+decode-requires c κs = search needs
+
+enum-told : tie.Need-enum-told
+enum-told c = search needs
+
+enum-known-bank : tie.Need-enum-known-bank
+enum-known-bank c = search needs
+
+enum-known-sound : tie.Need-enum-known-sound
+enum-known-sound c = search needs
+
+enum-known-line : tie.Need-enum-known-line
+enum-known-line c = search needs
+
+write-irq-requires : tie.Need-write-irq-requires
+write-irq-requires c κs = search needs
+
+returns : tie.Need-returns
+returns c = let a = c .before .before .before .args in ap (λ (r : Register). irqAfter r (a .val) (a .irq)) (sym (c .enum-told .given .1) ∙ c .before .before .decode .ensures)
+
+returns-2 : tie.Need-returns-2
+returns-2 c = let a = c .before .before .before .before .args in ap (λ (r : Register). irqAfter r (a .val) (a .irq)) (sym (c .before .bank .given .1) ∙ c .before .before .before .decode .ensures)
+
+returns-3 : tie.Need-returns-3
+returns-3 c = let a = c .before .before .before .before .args in ap (λ (r : Register). irqAfter r (a .val) (a .irq)) (sym (c .before .sound .given .1) ∙ c .before .before .before .decode .ensures)
+
+returns-4 : tie.Need-returns-4
+returns-4 c = let a = c .before .before .before .before .before .args in c .write-irq .ensures ∙ ap (λ (r : Register). irqAfter r (a .val) (a .irq)) (sym (c .before .before .line .given .1) ∙ c .before .before .before .before .decode .ensures)
+
+pub irq-written-spec : {M : Type 1} → statement M
+irq-written-spec =
+    tie.close
+    (tie.spec
+    decode-requires
+    enum-told
+    enum-known-bank
+    enum-known-sound
+    enum-known-line
+    write-irq-requires
+    returns
+    returns-2
+    returns-3
+    returns-4)

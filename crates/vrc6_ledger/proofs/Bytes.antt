@@ -1,0 +1,79 @@
+-- The laws of the bytes over board and buffers, from those of one access. Assumes nothing.
+use mathlib.Core.Path.{_≡_, refl, sym, ap, _∙_}
+use mathlib.Core.Bool.{true}
+use mathlib.Core.List.{List, _++_}
+use Prim.Native.Nat.{ℕ, _%_}
+use lib.ListN.{getD}
+use Rattle.base_shared.proofs.Tests.{unless-done}
+use Rattle.memory_layout.specs.declared.page.Page.{Page}
+use Rattle.memory_layout.specs.Pages.{unmapped, writable}
+use Rattle.memory_tables.specs.Paging.{Side, cpu, picture, entryFor}
+use Rattle.memory_access.specs.Access.{peeked, written}
+use Rattle.memory_access.proofs.Stored.{byte-stored-law as stored-access, page-viewed-law as view-access}
+use Rattle.registers.specs.declared.Register.{Register}
+use Rattle.registers.proofs.Both.{nothing-law}
+use Rattle.vrc6_calls.specs.declared.Call.the-variants.{CpuWrite, PictureWrite, CpuRead, PictureRead}
+use Rattle.vrc6.specs.Boards.{State, heldBy, table, entryOf}
+use Rattle.vrc6.specs.Checks.{memoryRefusal}
+use Rattle.vrc6.specs.Calls.{byteRead, registerWritten, storedAt}
+use Rattle.vrc6_calls.specs.Lists.{after, next}
+use Rattle.vrc6_ledger.specs.Demand3.{start}
+use Rattle.vrc6_ledger.specs.Laws.{bytes, put, Stored, StoredLaw, WroteLaw, writeOf, Plain, ReadBackLaw, ViewLaw}
+use Rattle.vrc6_ledger.proofs.Shown.{next-done}
+use Rattle.vrc6_ledger.proofs.Whole.{never-refused, demand3}
+
+module _ (s : Side) (x : State) (a v : ℕ) (h : memoryRefusal s x a true ≡ 0) where
+  abbrev e : Page
+  e = entryOf s (x .board) a
+
+  -- an access that is not refused stores as a write does
+  same : written (x .board .layout) e (x .fixed) (x .changing) a v ≡ storedAt s x a v
+  same = unless-done (storedAt s x a v) (x .changing) (memoryRefusal s x a true) (memoryRefusal s x a true) refl h
+
+  pub stored : Stored s x a v
+  stored =
+      let law = stored-access (x .board .layout) e (x .fixed) (x .changing) a v h in
+      record {
+        read-back = λ w. ap (λ (ys : List ℕ). peeked (x .board .layout) e (x .fixed) ys a .byte) (sym same) ∙ law .read-back w;
+        others = λ i n. ap (λ (ys : List ℕ). getD (x .fixed ++ ys) i 0) (sym same) ∙ law .others i n;
+        unwritable = λ w. ap (λ (ys : List ℕ). heldBy (x .board) (x .fixed) ys) (sym same ∙ law .unwritable w);
+      }
+
+pub stored-law : StoredLaw
+stored-law s x a v h = stored s x a v h
+
+pub wrote-law : WroteLaw
+wrote-law x a v =
+    record {
+      by-picture = λ h. next-done x (PictureWrite a v) h;
+      by-cpu = λ h low. next-done x (CpuWrite a v) h
+          ∙ ap (λ (k : Register). heldBy (registerWritten k v (x .board)) (x .fixed) (storedAt cpu x a v)) (nothing-law .low (x .board .banking .«revision_b») a low);
+      buffers = λ h. ap bytes (next-done x (CpuWrite a v) h);
+    }
+
+-- ---- after a list
+pub read-back-law : ReadBackLaw
+read-back-law c h ks s a v plain w =
+    let e = ap (λ (t : List Page). entryFor s t a) (demand3 c h ks .pages s) in
+    ap (λ (y : State). byteRead s y a .byte) (wrote s plain)
+    ∙ stored s x a v (free s) .read-back (ap writable e ∙ w)
+  where
+    x : State
+    x = after (start c) ks
+
+    free : (t : Side) → memoryRefusal t x a true ≡ 0
+    free cpu = never-refused c h ks (CpuRead a)
+    free picture = never-refused c h ks (PictureRead a)
+
+    wrote : (t : Side) → Plain t a → next x (writeOf t a v) ≡ put t x a v
+    wrote cpu low = wrote-law x a v .by-cpu (never-refused c h ks (CpuWrite a v)) low
+    wrote picture p = wrote-law x a v .by-picture (never-refused c h ks (PictureWrite a v))
+
+pub view-law : ViewLaw
+view-law x a =
+    let l = x .board .layout in
+    let law = view-access l (entryOf picture (x .board) a) (x .fixed) (x .changing) in
+    record {
+      whole = law .whole;
+      shows = λ b e. law .shows b ∙ ap (λ (n : ℕ). peeked l (getD (table picture (x .board)) (n % 16) unmapped) (x .fixed) (x .changing) b .byte) (sym e);
+    }

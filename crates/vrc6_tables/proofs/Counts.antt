@@ -1,0 +1,74 @@
+-- How many entries each table has, and that $3000 repeats $2000. Assumes nothing.
+use mathlib.Core.Path.{_≡_, refl, sym, ap, _∙_}
+use mathlib.Core.Bool.{Bool, true, false, cond}
+use mathlib.Core.List.{List, _++_, map}
+use Prim.Native.Nat.{ℕ, _+_, _<_}
+use native.Mathlib.Omega.{arith}
+use lib.IntN.{pos, negsuc}
+use lib.ListN.{length, getD, length-append, length-map, List·getD-append}
+use lib.Seq.{getD-append-add}
+use Rattle.base_shared.specs.Bits.{bit}
+use Rattle.memory_layout.specs.declared.page.Page.{Page}
+use Rattle.memory_layout.specs.declared.regions.MemoryLayout.{MemoryLayout}
+use Rattle.memory_layout.specs.declared.regions.Src.the-variants.{PrgRom, PrgRam, Chr}
+use Rattle.memory_layout.specs.Pages.{unmapped}
+use Rattle.memory_layout.specs.Layout.{region}
+use Rattle.memory_tables.specs.Paging.{cpu, picture, nothing, window}
+use Rattle.vrc6_banking.specs.declared.banking.Banking.{Banking}
+use Rattle.vrc6_slots.specs.Chr.{chrSlots}
+use Rattle.vrc6_banking.specs.Laws.{WellFormed}
+use Rattle.vrc6_slots.proofs.Counts.{slots-count}
+use Rattle.vrc6_tables.specs.Tables.{cpuEntries, nametableEntries, nametableSource, onePage, pictureEntries}
+use Rattle.vrc6_tables.specs.Laws.{CountLaw, RepeatLaw}
+
+-- the picture side's table in its parts
+module _ (l : MemoryLayout) (b : Banking) (w : WellFormed b) where
+  abbrev slots : List Page
+  slots = map (onePage (region l Chr)) (chrSlots (b .«banking_mode») (b .chr))
+
+  abbrev names : List Page
+  names = nametableEntries l b
+
+  eight : length slots ≡ 8
+  eight = length-map (chrSlots (b .«banking_mode») (b .chr)) (onePage (region l Chr)) ∙ slots-count (b .«banking_mode») (b .chr) (w .chrs)
+
+  four : length names ≡ 4
+  four = length-map (b .«nt_banks») (onePage (region l (nametableSource (b .«banking_mode»)))) ∙ w .names
+
+  twelve : length (slots ++ names) ≡ 12
+  twelve = omega (arith, length-append slots names, eight, four)
+
+  sixteen : length (pictureEntries l b) ≡ 16
+  unfolding pictureEntries
+  sixteen = omega (arith, length-append (slots ++ names) names, twelve, four)
+
+  again : (n : ℕ) → n < 4 → getD (pictureEntries l b) (12 + n) unmapped ≡ getD (pictureEntries l b) (8 + n) unmapped
+  unfolding pictureEntries
+  again n h =
+      let far : getD (slots ++ names ++ names) (12 + n) unmapped ≡ getD names n unmapped
+      = ap (λ (k : ℕ). getD (slots ++ names ++ names) (k + n) unmapped) (sym twelve) ∙ getD-append-add (slots ++ names) names n unmapped in
+      let near : getD (slots ++ names) (8 + n) unmapped ≡ getD names n unmapped
+      = ap (λ (k : ℕ). getD (slots ++ names) (k + n) unmapped) (sym eight) ∙ getD-append-add slots names n unmapped in
+      far ∙ sym (List·getD-append (slots ++ names) names unmapped (8 + n) (omega (arith, twelve)) ∙ near)
+
+-- the CPU's table, with PRG RAM at $6000 and without
+cpu-count : (l : MemoryLayout) (b : Banking) → length (cpuEntries l b) ≡ 64
+unfolding cpuEntries
+cpu-count l b = go (bit 7 (b .«banking_mode»))
+  where
+    go : (on : Bool)
+        → length
+        (nothing 24576 ++ cond on (window (region l PrgRam) 8192 (pos 0)) (nothing 8192)
+        ++ window (region l PrgRom) 16384 (pos (getD (b .«prg_banks») 0 0))
+        ++ window (region l PrgRom) 8192 (pos (getD (b .«prg_banks») 1 0))
+        ++ window (region l PrgRom) 8192 (negsuc 0))
+        ≡ 64
+    go true = refl
+    go false = refl
+
+pub count-law : CountLaw
+count-law cpu l b w = cpu-count l b
+count-law picture l b w = sixteen l b w
+
+pub repeat-law : RepeatLaw
+repeat-law l b w n h = again l b w n h

@@ -1,0 +1,4 @@
+pub mod Tables
+pub mod Required
+pub mod Laws
+pub mod Positions
