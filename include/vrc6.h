@@ -1,5 +1,5 @@
-/* The proved VRC6 board for C11 and C++ hosts: System V x86-64, linked with target/staticlib/liblent.a, which
- * `rt staticlib lent` writes.
+/* The proved VRC6 board for C11 and C++ hosts: System V x86-64, linked with target/staticlib/libvrc6.a, which
+ * host/archive makes.
  *
  * The host keeps one board and two buffers, and lends them to each call. The archive allocates nothing, keeps no
  * pointer and has no state of its own. A board and its buffers must not be used by two threads at once; two boards
@@ -9,7 +9,7 @@
  * values. What no call can check is left to the host:
  *   - a pointer is not null, and what it points at is live and as long as the length beside it says;
  *   - board, fixed and changing do not overlap;
- *   - a bool of a board holds 0 or 1.
+ *   - a bool of a board, and chr_writable of the layout that vrc6_create is given, holds 0 or 1.
  */
 #ifndef VRC6_H
 #define VRC6_H
@@ -69,7 +69,7 @@ typedef struct {
     uint8_t chr[8];
     uint8_t mirroring; /* 0 to 4 */
     uint8_t nt_banks[4];
-    bool revision; /* B */
+    bool revision_b; /* true for revision B */
 } Vrc6Banking;
 
 typedef struct {
@@ -139,14 +139,15 @@ typedef struct {
     float level;
     uint8_t name;
     uint8_t refusal;
-} Vrc6LevelTold;
+} Vrc6Level;
 
-/* The clocks until the counter next sets irq_pending, if it is armed. Not armed, or refused: 0 and false. */
+/* The clocks until the counter next sets irq_pending, if it is armed; vrc6_forecast names the one state where they are one
+ * short. Not armed, or refused: 0 and false. */
 typedef struct {
     uint32_t clocks;
     bool armed;
     uint8_t refusal;
-} Vrc6ForecastTold;
+} Vrc6Forecast;
 
 /* The 1,024 bytes from offset of the changing buffer if changing, else of the fixed one. Refused: 0 and false. */
 typedef struct {
@@ -173,9 +174,10 @@ static inline size_t vrc6_changing_length(Vrc6MemoryLayout layout) {
 
 /* Makes a new board in *board, whatever bytes were there, and changes neither buffer.
  * Refused by VRC6_LIMITS, VRC6_LENGTHS, VRC6_VALUES (a mirroring above 4 or a revision above 1) or VRC6_ZEROS. Refused,
- * *board is the zero board: every value is 0. Clock, reset, level, forecast and CPU writes from $8000 up refuse it by
- * VRC6_VALUES. To the other calls it is a board of the layout with all lengths 0: they refuse it by VRC6_LENGTHS, unless
- * the buffers have just 1,024 and 2,048 bytes, and then it shows the fixed buffer's first page everywhere. */
+ * *board is the zero board: every value is 0. Clock, reset, level and forecast refuse it by VRC6_VALUES. To the other
+ * calls it is a board of the layout with all lengths 0: they refuse it by VRC6_LENGTHS, unless the buffers have just 1,024
+ * and 2,048 bytes. With such buffers CPU writes from $8000 up refuse it by VRC6_VALUES, and the others take it: it shows
+ * the fixed buffer's first page everywhere, and stores nothing. */
 uint8_t vrc6_create(Vrc6Board *board, Vrc6MemoryLayout layout, uint8_t mirroring, uint8_t revision,
                     const uint8_t *fixed, size_t fixed_len, const uint8_t *changing, size_t changing_len);
 
@@ -186,7 +188,7 @@ Vrc6Tick vrc6_clock(Vrc6Board *board);
 /* The same clock, answered by one number: 1 for a tick, 6 for a refusal (by 3), otherwise 0. */
 uint8_t vrc6_clock_number(Vrc6Board *board);
 
-/* The byte that a CPU address shows. Board and buffers are left as they were.
+/* The byte that a CPU address shows. The call leaves board and buffers as they were.
  * Refused by VRC6_LIMITS, VRC6_LENGTHS or VRC6_VALUES (the page entry of the address). */
 Vrc6Peeked vrc6_cpu_read(Vrc6Board *board, const uint8_t *fixed, size_t fixed_len, const uint8_t *changing,
                          size_t changing_len, uint16_t addr);
@@ -202,8 +204,8 @@ Vrc6Peeked vrc6_picture_read(Vrc6Board *board, const uint8_t *fixed, size_t fixe
 uint8_t vrc6_cpu_write(Vrc6Board *board, const uint8_t *fixed, size_t fixed_len, uint8_t *changing,
                        size_t changing_len, uint16_t addr, uint8_t val);
 
-/* Stores val where the page of a picture address takes writes. The board is left as it was, and at most one byte of the
- * changing buffer changes. Refused as vrc6_cpu_read is. */
+/* Stores val where the page of a picture address takes writes. The call leaves the board as it was, and changes at most
+ * one byte of the changing buffer. Refused as vrc6_cpu_read is. */
 uint8_t vrc6_picture_write(Vrc6Board *board, const uint8_t *fixed, size_t fixed_len, uint8_t *changing,
                            size_t changing_len, uint16_t addr, uint8_t val);
 
@@ -211,15 +213,16 @@ uint8_t vrc6_picture_write(Vrc6Board *board, const uint8_t *fixed, size_t fixed_
  * Refused by VRC6_VALUES (interrupt and sound). */
 uint8_t vrc6_reset(Vrc6Board *board);
 
-/* The level of the sound now. The board is left as it was. Refused by VRC6_VALUES (interrupt and sound). */
-Vrc6LevelTold vrc6_level(Vrc6Board *board);
+/* The level of the sound now. The call leaves the board as it was. Refused by VRC6_VALUES (interrupt and sound). */
+Vrc6Level vrc6_level(Vrc6Board *board);
 
 /* How many calls of vrc6_clock it takes until the counter next sets irq_pending, if no write to it and no reset comes
- * between. The board is left as it was. Refused by VRC6_VALUES (interrupt and sound). */
-Vrc6ForecastTold vrc6_forecast(Vrc6Board *board);
+ * between. In one state it says 0 where one clock is needed: line mode, prescaler 0 and counter 255.
+ * The call leaves the board as it was. Refused by VRC6_VALUES (interrupt and sound). */
+Vrc6Forecast vrc6_forecast(Vrc6Board *board);
 
-/* Where the page of a picture address lies, for a renderer that takes many bytes of it. Board and buffers are left as
- * they were, and the place stays the same until the next vrc6_cpu_write. Refused as vrc6_cpu_read is. */
+/* Where the page of a picture address lies, for a renderer that takes many bytes of it. The call leaves board and buffers
+ * as they were, and the place stays the same until the next vrc6_cpu_write. Refused as vrc6_cpu_read is. */
 Vrc6PageAt vrc6_page_view(Vrc6Board *board, const uint8_t *fixed, size_t fixed_len, const uint8_t *changing,
                           size_t changing_len, uint16_t addr);
 
@@ -240,7 +243,7 @@ VRC6_AT(Vrc6Banking, prg_banks, 1);
 VRC6_AT(Vrc6Banking, chr, 3);
 VRC6_AT(Vrc6Banking, mirroring, 11);
 VRC6_AT(Vrc6Banking, nt_banks, 12);
-VRC6_AT(Vrc6Banking, revision, 16);
+VRC6_AT(Vrc6Banking, revision_b, 16);
 
 VRC6_SIZE(Vrc6Irq, 10);
 VRC6_AT(Vrc6Irq, reload, 0);
@@ -289,12 +292,12 @@ VRC6_SIZE(Vrc6Tick, 2);
 VRC6_AT(Vrc6Tick, refusal, 1);
 VRC6_SIZE(Vrc6Peeked, 2);
 VRC6_AT(Vrc6Peeked, refusal, 1);
-VRC6_SIZE(Vrc6LevelTold, 8);
-VRC6_AT(Vrc6LevelTold, name, 4);
-VRC6_AT(Vrc6LevelTold, refusal, 5);
-VRC6_SIZE(Vrc6ForecastTold, 8);
-VRC6_AT(Vrc6ForecastTold, armed, 4);
-VRC6_AT(Vrc6ForecastTold, refusal, 5);
+VRC6_SIZE(Vrc6Level, 8);
+VRC6_AT(Vrc6Level, name, 4);
+VRC6_AT(Vrc6Level, refusal, 5);
+VRC6_SIZE(Vrc6Forecast, 8);
+VRC6_AT(Vrc6Forecast, armed, 4);
+VRC6_AT(Vrc6Forecast, refusal, 5);
 VRC6_SIZE(Vrc6PageAt, 8);
 VRC6_AT(Vrc6PageAt, changing, 4);
 VRC6_AT(Vrc6PageAt, refusal, 5);

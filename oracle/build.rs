@@ -3,7 +3,7 @@ fn main() {
     println!("cargo:rerun-if-changed=build.rs");
     if std::env::var_os("CARGO_FEATURE_BENCH").is_some() {
         let dir = std::env::var("CARGO_MANIFEST_DIR").expect("cargo") + "/../target/staticlib";
-        println!("cargo:rerun-if-changed={dir}/liblent.a");
+        println!("cargo:rerun-if-changed={dir}/libvrc6.a");
         println!("cargo:rustc-link-search=native={dir}");
     }
 }

@@ -74,8 +74,8 @@ static void banking(void) {
         SET(made, banking.nt_banks[i], n, WRITTEN(0x8000, 0, chr_pages[12 + i]), WRITABLE | (CIRAM_START + 1024u * n));
     }
     /* Revision B has control at $F002. */
-    SET(made, banking.revision, true, WRITTEN(0xF002, 2, irq.enabled), 1);
-    SET(made, banking.revision, false, WRITTEN(0xF002, 2, irq.enabled), 0);
+    SET(made, banking.revision_b, true, WRITTEN(0xF002, 2, irq.enabled), 1);
+    SET(made, banking.revision_b, false, WRITTEN(0xF002, 2, irq.enabled), 0);
 }
 
 static void interrupt(void) {

@@ -27,7 +27,7 @@ static const Field fields[] = {
     FIELD(banking.chr),
     FIELD(banking.mirroring),
     FIELD(banking.nt_banks),
-    FIELD(banking.revision),
+    FIELD(banking.revision_b),
     FIELD(irq.reload),
     FIELD(irq.prescalar_counter),
     FIELD(irq.counter),

@@ -45,11 +45,11 @@ static void interrupt(void) {
     uint32_t ticks = 0;
     write_register(0xF000, 0xFE);
     write_register(0xF001, 2);
-    Vrc6ForecastTold told = vrc6_forecast(&board);
-    accepted("forecast", told.refusal);
+    Vrc6Forecast next = vrc6_forecast(&board);
+    accepted("forecast", next.refusal);
     uint32_t clocks = run_to_interrupt(&ticks);
-    expect("clocks until the interrupt", clocks, told.clocks);
-    printf("reload $FE, control 2: forecast %u, interrupt after %u clocks, %u ticks\n", told.clocks, clocks, ticks);
+    expect("clocks until the interrupt", clocks, next.clocks);
+    printf("reload $FE, control 2: forecast %u, interrupt after %u clocks, %u ticks\n", next.clocks, clocks, ticks);
     write_register(0xF002, 0);
     printf("acknowledged: pending %d, armed %d\n", board.irq.irq_pending, vrc6_forecast(&board).armed);
 }
@@ -59,9 +59,9 @@ static void sound(void) {
     write_register(0x9000, 0x8F);
     write_register(0x9002, 0x80);
     accepted("clock", vrc6_clock(&board).refusal);
-    Vrc6LevelTold told = vrc6_level(&board);
-    accepted("level", told.refusal);
-    printf("one pulse at volume 15: %s, level %.7f\n", names[told.name], (double)told.level);
+    Vrc6Level now = vrc6_level(&board);
+    accepted("level", now.refusal);
+    printf("one pulse at volume 15: %s, level %.7f\n", names[now.name], (double)now.level);
 }
 
 /* The first byte of the page that a picture address shows. */

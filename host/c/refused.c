@@ -47,11 +47,11 @@ static void all_without_buffers(void) {
     expect("clock, ticked", tick.ticked, 0);
     refused("clock_number", vrc6_clock_number(&board), 2 * VRC6_VALUES);
     refused("reset", vrc6_reset(&board), VRC6_VALUES);
-    Vrc6LevelTold level = vrc6_level(&board);
+    Vrc6Level level = vrc6_level(&board);
     refused("level", level.refusal, VRC6_VALUES);
     expect("level, level", level.level == 0.0f, 1);
     expect("level, name", level.name, 0);
-    Vrc6ForecastTold forecast = vrc6_forecast(&board);
+    Vrc6Forecast forecast = vrc6_forecast(&board);
     refused("forecast", forecast.refusal, VRC6_VALUES);
     expect("forecast, clocks", forecast.clocks, 0);
     expect("forecast, armed", forecast.armed, 0);
@@ -84,7 +84,7 @@ static void garbage(uint32_t *seed) {
             *seed = *seed * 1664525 + 1013904223;
             ((uint8_t *)&board)[fields[i].at + j] = (uint8_t)(*seed >> 24);
         }
-    bool *const bools[] = {&board.layout.chr_writable,      &board.banking.revision,
+    bool *const bools[] = {&board.layout.chr_writable,      &board.banking.revision_b,
                            &board.irq.irq_pending,          &board.irq.enabled,
                            &board.irq.enabled_after_ack,    &board.irq.cycle_mode,
                            &board.audio.pulse1.enabled,     &board.audio.pulse1.ignore_duty,

@@ -43,7 +43,7 @@ static void created_values(bool chr_writable) {
     expect("layout.prg_ram", b.layout.prg_ram, layout.prg_ram);
     expect("layout.ciram", b.layout.ciram, layout.ciram);
     expect("banking.mirroring", b.banking.mirroring, VRC6_HORIZONTAL);
-    expect("banking.revision", b.banking.revision, 1);
+    expect("banking.revision_b", b.banking.revision_b, 1);
     expect("chr_pages[0]", b.chr_pages[0], chr_writable ? (int64_t)(WRITABLE | (fixed_len + 2048)) : CHR_START);
     expect("audio.saw.timer", b.audio.saw.timer, 1);
 }

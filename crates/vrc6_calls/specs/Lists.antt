@@ -61,11 +61,11 @@ pub data Given : Type 0 where
   ofView : (bytes : List ℕ) (refusal : ℕ) → Given
 
 -- of interrupt and sound
-abbrev pub told : Board → Ask → Given
-told b clocking = ofClock (clock b)
-told b resetting = ofWrite (reset b)
-told b leveling = ofLevel (level b)
-told b forecasting = ofForecast (forecast b)
+abbrev pub answerTo : Board → Ask → Given
+answerTo b clocking = ofClock (clock b)
+answerTo b resetting = ofWrite (reset b)
+answerTo b leveling = ofLevel (level b)
+answerTo b forecasting = ofForecast (forecast b)
 
 -- of each kind
 abbrev pub givenBy : State → Shape → Given
@@ -73,7 +73,7 @@ givenBy x (reads s a) = ofRead (byteRead s x a)
 givenBy x (writes cpu a v) = ofWrite (cpuWrite x a v)
 givenBy x (writes picture a v) = ofWrite (pictureWrite x a v)
 givenBy x (views a) = ofView (pageView x a) (pageViewRefusal x a)
-givenBy x (asks q) = told (x .board) q
+givenBy x (asks q) = answerTo (x .board) q
 
 -- the answer that the call's contract names
 abbrev pub given : State → Call → Given

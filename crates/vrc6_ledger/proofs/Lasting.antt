@@ -21,8 +21,8 @@ use Rattle.registers.specs.Decode.{decode}
 use Rattle.vrc6_banking.specs.Banking.{isB}
 use Rattle.vrc6_calls.specs.declared.Call.{Call}
 use Rattle.vrc6.specs.Boards.{Creation}
-use Rattle.vrc6_ledger.specs.Ledger.{Ledger, Registers, Event, cpuWrites, pictureWrites, clocks, resets, looks, event, noted, opening, entries, ledger, copiedAt, taken, registersAfter}
-use Rattle.vrc6_ledger.specs.Last.{orElse, byteOr, Eleven, same, lastHeld, givenTo, writtenTo, lastTo, storedThrough, storedBy, lastAt, RegistersLaw, CopyLaw}
+use Rattle.vrc6_ledger.specs.Ledger.{Ledger, Origin, Registers, Event, cpuWrites, pictureWrites, clocks, resets, looks, event, noted, opening, entries, ledger, copiedAt, taken, registersAfter}
+use Rattle.vrc6_ledger.specs.Last.{orElse, byteOr, Eleven, same, lastHeld, givenTo, writtenTo, lastTo, storedThrough, storedBy, lastAt, RegistersLaw, OriginLaw, CopyLaw}
 use Rattle.vrc6_ledger.proofs.Kept.{kept-eight, kept-length}
 
 or-or : (a b d : Option ℕ) → orElse a (orElse b d) ≡ orElse (orElse a b) d
@@ -80,7 +80,7 @@ module _ (g : Registers) (eight : length (g .chr) ≡ 8) (v : ℕ) where
 module _ (c : Creation) where
   -- one call
   noted-held : (l : Ledger) → length (l .registers .chr) ≡ 8 → (e : Event) (n : BankRegister) → Eleven n
-      → lastHeld (noted c l e .registers) n ≡ orElse (writtenTo (l .origin) n e) (lastHeld (l .registers) n)
+      → lastHeld (noted c l e .registers) n ≡ orElse (writtenTo (l .origin .revision) n e) (lastHeld (l .registers) n)
   noted-held l eight (cpuWrites a v) n h = after-held (l .registers) eight v (decode (isB (l .origin .revision)) a) n h
   noted-held l eight (pictureWrites a v) n h = refl
   noted-held l eight (clocks m) n h = refl
@@ -94,14 +94,28 @@ module _ (c : Creation) where
   noted-eight l resets = refl
   noted-eight l looks = refl
 
+  -- no call changes what the board was made with
+  noted-origin : (l : Ledger) (e : Event) → noted c l e .origin ≡ l .origin
+  noted-origin l (cpuWrites a v) = refl
+  noted-origin l (pictureWrites a v) = refl
+  noted-origin l (clocks m) = refl
+  noted-origin l resets = refl
+  noted-origin l looks = refl
+
+  all-origin : (ks : List Call) (l : Ledger) → ledger c l ks .origin ≡ l .origin
+  all-origin [] l = refl
+  all-origin (k ∷ ks) l = all-origin ks (noted c l (event k)) ∙ noted-origin l (event k)
+
   all-held : (ks : List Call) (l : Ledger) → length (l .registers .chr) ≡ 8 → (n : BankRegister) → Eleven n
-      → lastHeld (ledger c l ks .registers) n ≡ orElse (lastTo c l n ks) (lastHeld (l .registers) n)
+      → lastHeld (ledger c l ks .registers) n ≡ orElse (lastTo (l .origin .revision) n ks) (lastHeld (l .registers) n)
   all-held [] l eight n h = refl
   all-held (k ∷ ks) l eight n h =
       let e = event k in
+      let later : Origin → Option ℕ = λ o. lastTo (o .revision) n ks in
       all-held ks (noted c l e) (noted-eight l e ∙ eight) n h
-      ∙ ap (orElse (lastTo c (noted c l e) n ks)) (noted-held l eight e n h)
-      ∙ or-or (lastTo c (noted c l e) n ks) (writtenTo (l .origin) n e) (lastHeld (l .registers) n)
+      ∙ ap (λ (o : Origin). orElse (later o) (lastHeld (noted c l e .registers) n)) (noted-origin l e)
+      ∙ ap (orElse (later (l .origin))) (noted-held l eight e n h)
+      ∙ or-or (later (l .origin)) (writtenTo (l .origin .revision) n e) (lastHeld (l .registers) n)
 
   -- ---- places
   copied-at : (e : Page) (copy : List ℕ) (a v i : ℕ) → i < length copy
@@ -161,7 +175,11 @@ empty c Mode = refl
 empty c (Chr i) = none-at 8 i
 
 pub registers-law : RegistersLaw
-registers-law c ks n h = all-held c ks (opening c) refl n h ∙ ap (orElse (lastTo c (opening c) n ks)) (empty c n) ∙ or-none (lastTo c (opening c) n ks)
+registers-law c ks n h =
+    all-held c ks (opening c) refl n h ∙ ap (orElse (lastTo (c .revision) n ks)) (empty c n) ∙ or-none (lastTo (c .revision) n ks)
+
+pub origin-law : OriginLaw
+origin-law c ks = all-origin c ks (opening c)
 
 pub copy-law : CopyLaw
 copy-law c ks i h = all-copied c ks (opening c) i h

@@ -37,7 +37,7 @@ use Rattle.vrc6.specs.Checks.{engineRefusal, memoryRefusal, cpuWriteRefusal}
 use Rattle.vrc6_engine.specs.Engine.{forecastOf}
 use Rattle.vrc6_engine.specs.Writes.{irqWritten}
 use Rattle.vrc6.specs.Calls.{registerWritten, cpuWritten, pictureWritten, clocked, wasReset}
-use Rattle.vrc6_calls.specs.Lists.{Ask, clocking, resetting, leveling, forecasting, Shape, reads, writes, views, asks, shape, told, givenBy, refusalIn, ticksIn, forecastRefusal, nextBy, next}
+use Rattle.vrc6_calls.specs.Lists.{Ask, clocking, resetting, leveling, forecasting, Shape, reads, writes, views, asks, shape, answerTo, givenBy, refusalIn, ticksIn, forecastRefusal, nextBy, next}
 use Rattle.vrc6_ledger.specs.Ledger.{Ledger, Origin, Registers, Timing, Event, cpuWrites, pictureWrites, clocks, resets, looks, asked, eventBy, event, noted, byteOf, has, anyHas, bankingBy, taken, registersAfter, timingAfter, timingClocked, copied}
 use Rattle.vrc6_ledger.specs.Refused.{checksBy}
 use Rattle.vrc6_ledger.specs.Played.{done}
@@ -217,7 +217,7 @@ forecast-number q zero = either (λ f. forecastRefusal (forecastOf f) ≡ 0) (q 
 forecast-number q (suc n) = refl
 
 -- the answer says that number
-asks-answered : (x : State) (q : Ask) → refusalIn (told (x .board) q) ≡ engineRefusal (x .board)
+asks-answered : (x : State) (q : Ask) → refusalIn (answerTo (x .board) q) ≡ engineRefusal (x .board)
 asks-answered x clocking = refl
 asks-answered x resetting = refl
 asks-answered x leveling = level-number (x .board .audio) (engineRefusal (x .board))

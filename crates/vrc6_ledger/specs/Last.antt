@@ -15,10 +15,11 @@ use Rattle.registers.specs.declared.Register.the-variants.{Nothing, OfBank, OfA
 use Rattle.registers.specs.declared.BankRegister.{BankRegister}
 use Rattle.registers.specs.declared.BankRegister.the-variants.{Prg16, Prg8, Mode, Chr}
 use Rattle.registers.specs.Decode.{decode}
+use Rattle.vrc6_banking.specs.declared.banking.Revision.{Revision}
 use Rattle.vrc6_banking.specs.Banking.{isB}
 use Rattle.vrc6_calls.specs.declared.Call.{Call}
 use Rattle.vrc6.specs.Boards.{Creation}
-use Rattle.vrc6_ledger.specs.Ledger.{Ledger, Origin, Registers, Event, cpuWrites, pictureWrites, clocks, resets, looks, event, noted, opening, entries, ledgerOf}
+use Rattle.vrc6_ledger.specs.Ledger.{Ledger, Registers, Event, cpuWrites, pictureWrites, clocks, resets, looks, event, noted, opening, entries, ledgerOf}
 
 -- the later byte, or the earlier where there is none
 abbrev pub orElse : (later earlier : Option ℕ) → Option ℕ
@@ -71,22 +72,26 @@ givenTo b (OfBank r) v = cond (same r b) (some v) none
 givenTo b (OfAudio r) v = none
 givenTo b (OfIrq r) v = none
 
--- the byte that a call writes to it
-abbrev pub writtenTo : Origin → (b : BankRegister) → Event → Option ℕ
-writtenTo o b (cpuWrites a v) = givenTo b (decode (isB (o .revision)) a) v
-writtenTo o b (pictureWrites a v) = none
-writtenTo o b (clocks n) = none
-writtenTo o b resets = none
-writtenTo o b looks = none
+-- the byte that a call writes to it, as the revision decodes
+abbrev pub writtenTo : Revision → (b : BankRegister) → Event → Option ℕ
+writtenTo r b (cpuWrites a v) = givenTo b (decode (isB r) a) v
+writtenTo r b (pictureWrites a v) = none
+writtenTo r b (clocks n) = none
+writtenTo r b resets = none
+writtenTo r b looks = none
 
--- the last byte that a list writes to it, or none
-abbrev pub lastTo : Creation → Ledger → (b : BankRegister) → List Call → Option ℕ
-lastTo c l b [] = none
-lastTo c l b (k ∷ ks) = orElse (lastTo c (noted c l (event k)) b ks) (writtenTo (l .origin) b (event k))
+-- the last byte that a list writes to it, or none; no ledger is asked
+abbrev pub lastTo : Revision → (b : BankRegister) → List Call → Option ℕ
+lastTo r b [] = none
+lastTo r b (k ∷ ks) = orElse (lastTo r b ks) (writtenTo r b (event k))
 
 -- of every creation, every list and each of the eleven: the ledger holds the last byte written to it, or none
 abbrev pub RegistersLaw : Type 0
-RegistersLaw = (c : Creation) (ks : List Call) (b : BankRegister) → Eleven b → lastHeld (ledgerOf c ks .registers) b ≡ lastTo c (opening c) b ks
+RegistersLaw = (c : Creation) (ks : List Call) (b : BankRegister) → Eleven b → lastHeld (ledgerOf c ks .registers) b ≡ lastTo (c .revision) b ks
+
+-- of every creation and every list: what the board was made with stays what creation said
+abbrev pub OriginLaw : Type 0
+OriginLaw = (c : Creation) (ks : List Call) → ledgerOf c ks .origin ≡ record { mirroring = c .mirroring; revision = c .revision }
 
 -- ---- the bytes of the changing buffer
 -- the byte that a write of v to an address stores at place i of the changing buffer: where the address's page is writable and shows it there

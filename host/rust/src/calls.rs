@@ -1,9 +1,10 @@
 //! The archive's calls as safe functions, and the only unsafe code of this package. Each answers as its contract in
-//! crates/host_calls says: a refusal is a number, 0 for none, and changes nothing.
+//! crates/host_calls says: a refusal is a number, 0 for none. A refused call leaves board and buffers as they were; a
+//! refused create leaves the zero board.
 //!
 //! What the archive cannot check, Rust's types promise: a reference is live and not aliased, a slice is as long as it
 //! says, a bool is 0 or 1. The archive keeps no pointer.
-use crate::records::{Board, ForecastTold, LevelTold, MemoryLayout, PageAt, Peeked, Tick};
+use crate::records::{Board, EncodedForecast, EncodedLevel, MemoryLayout, PageAt, Peeked, Tick};
 
 // A slice crosses as a pointer and a length.
 #[rustfmt::skip]
@@ -29,8 +30,8 @@ unsafe extern "C" {
         addr: u16, val: u8,
     ) -> u8;
     fn vrc6_reset(board: *mut Board) -> u8;
-    fn vrc6_level(board: *mut Board) -> LevelTold;
-    fn vrc6_forecast(board: *mut Board) -> ForecastTold;
+    fn vrc6_level(board: *mut Board) -> EncodedLevel;
+    fn vrc6_forecast(board: *mut Board) -> EncodedForecast;
     fn vrc6_page_view(
         board: *mut Board, fixed: *const u8, fixed_len: usize, changing: *const u8, changing_len: usize, addr: u16,
     ) -> PageAt;
@@ -87,12 +88,12 @@ pub fn reset(board: &mut Board) -> u8 {
     unsafe { vrc6_reset(board) }
 }
 
-pub fn level(board: &mut Board) -> LevelTold {
+pub fn level(board: &mut Board) -> EncodedLevel {
     // SAFETY: one live board.
     unsafe { vrc6_level(board) }
 }
 
-pub fn forecast(board: &mut Board) -> ForecastTold {
+pub fn forecast(board: &mut Board) -> EncodedForecast {
     // SAFETY: one live board.
     unsafe { vrc6_forecast(board) }
 }

@@ -5,7 +5,8 @@ pub mod records;
 
 pub use records::{Board, MemoryLayout};
 
-/// Why a call is refused: the first condition that fails, in this order. A refused call changes nothing.
+/// Why a call is refused: the first condition that fails, in this order. A refused call leaves board and buffers as they
+/// were; a refused create leaves the zero board, and [`Vrc6::new`] gives none.
 #[derive(Debug, Clone, Copy, PartialEq, Eq)]
 pub enum Refusal {
     /// A length of the layout is above its limit.
@@ -131,19 +132,20 @@ impl Vrc6 {
     }
 
     pub fn level(&mut self) -> Result<Level, Refusal> {
-        let told = calls::level(&mut self.board);
-        let named = match told.name {
+        let now = calls::level(&mut self.board);
+        let named = match now.name {
             0 => Level::Silent,
             1 => Level::Held,
             _ => Level::Playing,
         };
-        unless(told.refusal, named(told.level))
+        unless(now.refusal, named(now.level))
     }
 
-    /// The clocks until the counter next asks for an interrupt; None if it is not armed.
+    /// The clocks until the counter next asks for an interrupt; None if it is not armed. In one state it says 0 where one
+    /// clock is needed: line mode, prescaler 0 and counter 255.
     pub fn forecast(&mut self) -> Result<Option<u32>, Refusal> {
-        let told = calls::forecast(&mut self.board);
-        unless(told.refusal, told.armed.then_some(told.clocks))
+        let next = calls::forecast(&mut self.board);
+        unless(next.refusal, next.armed.then_some(next.clocks))
     }
 
     /// The 1,024 bytes that a picture address and its neighbours show.

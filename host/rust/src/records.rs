@@ -48,8 +48,8 @@ pub struct Banking {
     pub chr: [u8; 8],
     pub mirroring: u8,
     pub nt_banks: [u8; 4],
-    /// Revision B.
-    pub revision: bool,
+    /// True for revision B.
+    pub revision_b: bool,
 }
 
 #[repr(C)]
@@ -143,16 +143,17 @@ pub struct Peeked {
 /// The name is 0 for silent, 1 for held, 2 for playing.
 #[repr(C)]
 #[derive(Debug, Clone, Copy, PartialEq)]
-pub struct LevelTold {
+pub struct EncodedLevel {
     pub level: f32,
     pub name: u8,
     pub refusal: u8,
 }
 
-/// The clocks until the counter next sets `irq_pending`, if it is armed.
+/// The clocks until the counter next sets `irq_pending`, if it is armed; in line mode at prescaler 0 and counter 255 they
+/// are 0, and one is needed.
 #[repr(C)]
 #[derive(Debug, Clone, Copy, PartialEq, Eq)]
-pub struct ForecastTold {
+pub struct EncodedForecast {
     pub clocks: u32,
     pub armed: bool,
     pub refusal: u8,
@@ -176,7 +177,7 @@ macro_rules! places {
 
 places!(MemoryLayout: 20; prg_rom 0, chr 4, chr_writable 8, prg_ram 12, ciram 16);
 places!(Page: 4; 0 0);
-places!(Banking: 17; banking_mode 0, prg_banks 1, chr 3, mirroring 11, nt_banks 12, revision 16);
+places!(Banking: 17; banking_mode 0, prg_banks 1, chr 3, mirroring 11, nt_banks 12, revision_b 16);
 places!(VrcIrq: 10; reload 0, prescalar_counter 2, counter 4, irq_pending 5, enabled 6);
 places!(VrcIrq: 10; enabled_after_ack 7, cycle_mode 8);
 places!(Pulse: 10; enabled 0, volume 1, duty_cycle 2, ignore_duty 3, frequency 4, timer 6, step 8, freq_shift 9);
@@ -185,6 +186,6 @@ places!(Audio: 36; pulse1 0, pulse2 10, saw 20, halt 30, out 32);
 places!(Board: 404; layout 0, prg_pages 20, chr_pages 276, banking 340, irq 358, audio 368);
 places!(Tick: 2; ticked 0, refusal 1);
 places!(Peeked: 2; byte 0, refusal 1);
-places!(LevelTold: 8; level 0, name 4, refusal 5);
-places!(ForecastTold: 8; clocks 0, armed 4, refusal 5);
+places!(EncodedLevel: 8; level 0, name 4, refusal 5);
+places!(EncodedForecast: 8; clocks 0, armed 4, refusal 5);
 places!(PageAt: 8; offset 0, changing 4, refusal 5);

@@ -1,7 +1,7 @@
 //! Bad input: each call is refused by its number, and leaves board and buffers as they were.
 mod common;
 use common::{S, board_of, changing, fixed};
-use vrc6::records::{ForecastTold, LevelTold, PageAt, Peeked, Tick};
+use vrc6::records::{EncodedForecast, EncodedLevel, PageAt, Peeked, Tick};
 use vrc6::{Board, MemoryLayout, Mirroring, Refusal, Revision, Vrc6, calls};
 
 fn created(layout: MemoryLayout, fixed: Vec<u8>, changing: Vec<u8>) -> Result<Vrc6, Refusal> {
@@ -27,8 +27,8 @@ fn refused_without_buffers(board: Board) {
     assert_eq!(calls::clock(&mut b), Tick { ticked: false, refusal: 3 });
     assert_eq!(calls::clock_number(&mut b), 6);
     assert_eq!(calls::reset(&mut b), 3);
-    assert_eq!(calls::level(&mut b), LevelTold { level: 0.0, name: 0, refusal: 3 });
-    assert_eq!(calls::forecast(&mut b), ForecastTold { clocks: 0, armed: false, refusal: 3 });
+    assert_eq!(calls::level(&mut b), EncodedLevel { level: 0.0, name: 0, refusal: 3 });
+    assert_eq!(calls::forecast(&mut b), EncodedForecast { clocks: 0, armed: false, refusal: 3 });
     assert_eq!(b, board);
 }
 

@@ -12,7 +12,7 @@ pub struct Board(pub [u8; 1024]);
 
 // A slice crosses as a pointer and a length.
 #[rustfmt::skip]
-#[link(name = "lent", kind = "static")]
+#[link(name = "vrc6", kind = "static")]
 unsafe extern "C" {
     fn vrc6_create(
         b: *mut Board, layout: Layout, mirroring: u8, revision: u8,
