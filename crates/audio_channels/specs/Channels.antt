@@ -4,7 +4,7 @@ use mathlib.Core.Bool.{Bool, cond}
 use lib.Dec.{leb}
 use Rattle.base_shared.specs.Bits.{bit}
 
--- $x001 gives the period's low 8 bits (VRC6 audio); of a frequency bits 8..11 stay (the Rust)
+-- $x001 gives the period's low 8 bits; of a frequency bits 8..11 stay (VRC6 audio; m024_m026_vrc6.rs, Pulse::write_register)
 abbrev pub lowByte : (frequency val : ℕ) → ℕ
 lowByte f v = f / 256 % 16 * 256 + v % 256
 

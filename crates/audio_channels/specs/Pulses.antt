@@ -1,14 +1,14 @@
--- The pulses: registers, clock and level (VRC6 audio; `Pulse` of the Rust). Assumes nothing.
+-- The pulses: registers, clock and level (VRC6 audio; m024_m026_vrc6.rs, Pulse). Assumes nothing.
 use Prim.Native.Nat.{ℕ, _+_, _/_, _%_}
 use mathlib.Core.Bool.{Bool, false, cond, _&&_, _||_}
 use lib.Dec.{leb}
 use Rattle.base_shared.specs.Bits.{bit}
-use Rattle.audio_channels.specs.declared.channel.ChannelRegister.{ChannelRegister}
-use Rattle.audio_channels.specs.declared.channel.ChannelRegister.the-variants.{Volume, FrequencyLow, FrequencyHigh}
+use Rattle.registers.specs.declared.ChannelRegister.{ChannelRegister}
+use Rattle.registers.specs.declared.ChannelRegister.the-variants.{Volume, FrequencyLow, FrequencyHigh}
 use Rattle.audio_channels.specs.declared.pulse.Pulse.{Pulse}
 use Rattle.audio_channels.specs.Channels.{lowByte, highBits, enables, periodOf, runsOut, timerNext}
 
--- a pulse that is off, with this frequency and timer: 1 in `Pulse::new`, 0 in the all-zero board
+-- a pulse that is off, with this frequency and timer: 1 in `Pulse::new`, 0 in the all-zero board (m024_m026_vrc6.rs, Pulse::new)
 abbrev pub pulseAt : (frequency : ℕ) → Pulse
 pulseAt f =
     record {
@@ -78,13 +78,13 @@ pulseControlled v p =
       «freq_shift» = p .«freq_shift»;
     }
 
--- a register of the pulse gets a byte (VRC6 audio)
+-- a register of the pulse gets a byte (01, Sound 1; VRC6 audio)
 unfoldable pub pulseWritten : ChannelRegister → (val : ℕ) → Pulse → Pulse
 pulseWritten Volume v p = pulseControlled v p
 pulseWritten FrequencyLow v p = pulseTuned (lowByte (p .frequency) v) p
 pulseWritten FrequencyHigh v p = pulseEnabled (enables v) (pulseTuned (highBits (p .frequency) v) p)
 
--- p with another shift ($9003)
+-- p with another shift, by $9003 (01, Sound 1)
 abbrev pub pulseShifted : (shift : ℕ) → Pulse → Pulse
 pulseShifted s p =
     record {
@@ -98,16 +98,16 @@ pulseShifted s p =
       «freq_shift» = s;
     }
 
--- a clock of an enabled pulse: where the timer runs out, the next of 16 steps, counted up (VRC6 audio; the Rust)
+-- a clock of an enabled pulse: where the timer runs out, the next of 16 steps, counted up (VRC6 audio; m024_m026_vrc6.rs, Pulse::clock)
 abbrev pub pulseRun : Pulse → Pulse
 pulseRun p =
     pulseTimed (timerNext (p .timer) (periodOf (p .frequency) (p .«freq_shift»)))
     (cond (runsOut (p .timer)) ((p .step + 1) % 16) (p .step)) p
 
--- a clock of a pulse
+-- a clock of a pulse (01, Sound 1; VRC6 audio)
 unfoldable pub pulseClocked : Pulse → Pulse
 pulseClocked p = cond (p .enabled) (pulseRun p) p
 
--- what a pulse puts out: its volume where the step is at most D, or always with M (VRC6 audio)
+-- what a pulse puts out: its volume where the step is at most D, or always with M (01, Sound 1; VRC6 audio)
 unfoldable pub pulseLevel : Pulse → ℕ
 pulseLevel p = cond (p .enabled && (p .«ignore_duty» || leb (p .step) (p .«duty_cycle»))) (p .volume) 0

@@ -1,13 +1,6 @@
-// What pulses and the saw have in common: registers and frequency.
+// What pulses and the saw have in common: the frequency.
 ghost use mathlib.Core.Path.{_≡_};
 ghost use Rattle.audio_channels.specs.Channels.{lowByte, highBits};
-
-// $x000, $x001 and $x002.
-pub enum ChannelRegister {
-    Volume,
-    FrequencyLow,
-    FrequencyHigh,
-}
 
 // The frequency with another low byte.
 pub(crate) fn low_byte(frequency: u16, val: u8) -> u16

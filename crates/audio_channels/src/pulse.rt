@@ -1,6 +1,6 @@
 // A pulse channel ($9000..2 and $A000..2).
 use crate::channel;
-use crate::channel::ChannelRegister;
+use registers::ChannelRegister;
 ghost use mathlib.Core.Path.{_≡_};
 ghost use Rattle.base_floats.specs.Wholes.{float};
 ghost use Rattle.audio_channels.specs.Pulses.{pulseAt, pulseWritten, pulseShifted, pulseClocked, pulseLevel};

@@ -1,6 +1,6 @@
 // The saw channel ($B000..2).
 use crate::channel;
-use crate::channel::ChannelRegister;
+use registers::ChannelRegister;
 ghost use mathlib.Core.Path.{_≡_};
 ghost use Rattle.base_floats.specs.Wholes.{float};
 ghost use Rattle.audio_channels.specs.Saws.{sawAt, sawWritten, sawShifted, sawClocked, sawLevel, accumulated};

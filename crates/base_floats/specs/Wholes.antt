@@ -9,11 +9,11 @@ use lib.Ieee.{Float, binary32, ofInt, add, lt, inUnsigned, toUnsigned}
 abbrev pub float : ℕ → Float
 float n = ofInt binary32 (pos n)
 
--- three levels by two f32 additions (`Audio::clock` of the Rust)
+-- three levels by two f32 additions (m024_m026_vrc6.rs, Audio::clock)
 abbrev pub mixed : Float → Float → Float → Float
 mixed a b c = add binary32 (add binary32 a b) c
 
--- x is a whole number 0..61, and not negative zero (01, Records)
+-- x is a whole number 0..61, and not negative zero (01, Records 5)
 unfoldable pub isSum : Float → Bool
 isSum x = inUnsigned binary32 8 x && leb (toUnsigned 8 x) 61
 

@@ -1,4 +1,4 @@
--- The order of refusal numbers, of any tests (01: "when its condition holds and only then"). `proofs/` proves it. Assumes nothing.
+-- The order of refusal numbers, of any tests (01, The board's calls 4). `proofs/` proves it. Assumes nothing.
 use mathlib.Core.Path.{_≡_}
 use mathlib.Core.Bool.{Bool, true, false, not, _&&_}
 use mathlib.Core.List.{List, [], _∷_, _++_}
@@ -13,7 +13,7 @@ abbrev pub AllHold : List (Bool × ℕ) → Type 0
 AllHold ts = Each (λ t. t .0 ≡ true) ts
 
 -- a refusal number from tests: that of the first that fails, 0 where all hold and only then, and a test's own where it fails and those before
--- it hold, and only then
+-- it hold, and only then (01, The board's calls 4)
 pub record Numbered (ts : List (Bool × ℕ)) (n : ℕ) : Type 0 where
   pub first : n ≡ firstFailing ts
   pub only : (n ≡ 0) ↔ AllHold ts
@@ -30,6 +30,6 @@ abbrev pub ownNumbers : List (Bool × ℕ) → Bool
 ownNumbers [] = true
 ownNumbers (t ∷ ts) = not (eqb (t .1) 0) && without (t .1) ts && ownNumbers ts
 
--- of tests of any number
+-- of any tests that have numbers of their own
 abbrev pub NumberedLaw : Type 0
 NumberedLaw = (ts : List (Bool × ℕ)) → ownNumbers ts ≡ true → (n : ℕ) → n ≡ firstFailing ts → Numbered ts n

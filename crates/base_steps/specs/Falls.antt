@@ -4,12 +4,12 @@ use mathlib.Core.Bool.{cond}
 use lib.Dec.{leb}
 use Rattle.base_steps.specs.Times.{times, count}
 
--- a step and a length for which the laws hold: 1 ≤ d ≤ l (3 and 341 in 01, Interrupt)
+-- a step and a length for which the laws hold: 1 ≤ d ≤ l; the board's are 3 and 341 (01, Interrupt 1)
 pub record Pace (d l : ℕ) : Type 0 where
   pub low : 1 ≤ d
   pub high : d ≤ l
 
--- the number after a clock: p falls by d, and where that is 0 or less, gains l (01, Interrupt)
+-- the number after a clock: p falls by d, and where that is 0 or less, gains l (01, Interrupt 1)
 abbrev pub fallen : (d l p : ℕ) → ℕ
 fallen d l p = cond (leb p d) (p + (l - d)) (p - d)
 

@@ -4,7 +4,7 @@ use mathlib.Core.Path.{_≡_}
 use mathlib.Core.Logic.{_⊎_, _↔_}
 use Rattle.base_steps.specs.Falls.{Pace, fallen, fell, runs, due}
 
--- one clock from p
+-- one clock from p (01, Interrupt 1)
 pub record OneClock (d l p : ℕ) : Type 0 where
   -- it falls by d where that leaves it above 0
   pub falls : d < p → fallen d l p + d ≡ p
@@ -12,14 +12,14 @@ pub record OneClock (d l p : ℕ) : Type 0 where
   pub gains : p ≤ d → fallen d l p + d ≡ p + l
   -- it stays in 0 .. l
   pub within : p ≤ l → fallen d l p ≤ l
-  -- it stays in 1 .. l
+  -- it stays at 1 or more
   pub above : 1 ≤ p → 1 ≤ fallen d l p
 
 -- the same for every pace and every p
 abbrev pub OneClockLaw : Type 0
 OneClockLaw = (d l : ℕ) → Pace d l → (p : ℕ) → OneClock d l p
 
--- c clocks from p ≥ 1 come to 0 or less exactly (d c + l - p) / l times, rounded down (the ticks of a stretch in 01, Demand 3's lists)
+-- c clocks from p ≥ 1 come to 0 or less exactly (d c + l - p) / l times, rounded down (00, 3)
 abbrev pub TickLaw : Type 0
 TickLaw = (d l : ℕ) → Pace d l → (p c : ℕ) → 1 ≤ p → runs d l p c ≡ (d * c + l - p) / l
 
@@ -45,7 +45,8 @@ pub record Add (d l p m n : ℕ) : Type 0 where
 abbrev pub AddLaw : Type 0
 AddLaw = (d l p m n : ℕ) → Add d l p m n
 
--- from 1 .. l, l clocks come to 0 or less d times and lead back to the start: what is over is carried (three lines take 341 clocks: VRC IRQ)
+-- from 1 .. l, l clocks come to 0 or less d times and lead back to the start: what is over is carried, and with 3 and 341 three lines
+-- take 341 clocks (01, Reference positions 13; VRC IRQ)
 pub record Period (d l p : ℕ) : Type 0 where
   pub counted : runs d l p l ≡ d
   pub number : fell d l p l ≡ p
@@ -67,7 +68,8 @@ WorkedOutLaw = (d l : ℕ) → Pace d l → (p c : ℕ) → WorkedOut d l p c
 abbrev pub FallDueLaw : Type 0
 FallDueLaw = (d l : ℕ) → Pace d l → (p c k : ℕ) → 1 ≤ k → (k ≤ runs d l p c) ↔ (due d l p k ≤ c)
 
--- where due is the plain quotient (l k + p + d - 1) / d, and where one clock more: only from 0, for the first time or with d = l
+-- where due is the plain quotient (l k + p + d - 1) / d, as the forecast has it, and where one clock more: only from 0, for the first time
+-- or with d = l (01, The board's calls 2)
 pub record DuePlain (d l p k : ℕ) : Type 0 where
   pub plain : (1 ≤ p) ⊎ ((1 ≤ k) × (d < l)) → due d l p (suc k) ≡ (l * k + p + (d - 1)) / d
   pub one-more : p ≡ 0 → (k ≡ 0) ⊎ (d ≡ l) → due d l p (suc k) ≡ suc ((l * k + p + (d - 1)) / d)

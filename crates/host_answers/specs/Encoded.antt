@@ -1,4 +1,4 @@
--- What the lent forms answer beside the board that they advance (01, "The board's calls"). Assumes nothing.
+-- What the lent forms answer beside the board that they advance (01, The board's calls). Assumes nothing.
 use mathlib.Core.Bool.{Bool, true, false, cond, _&&_}
 use mathlib.Core.List.{List, [], _∷_, _++_}
 use Prim.Native.Nat.{ℕ, zero, suc, _-_}
@@ -33,7 +33,7 @@ use Rattle.host_answers.specs.declared.PageAt.{PageAt}
 use Rattle.host_answers.specs.declared.Numbered.{Numbered}
 
 -- ---- create, by numbers
--- the mirroring of a number, in the Rust's order
+-- the mirroring of a number (ppu.rs, Mirroring)
 abbrev pub mirroringNumbered : ℕ → Mirroring
 mirroringNumbered zero = Vertical
 mirroringNumbered (suc zero) = Horizontal
@@ -41,21 +41,21 @@ mirroringNumbered (suc (suc zero)) = SingleScreenA
 mirroringNumbered (suc (suc (suc zero))) = SingleScreenB
 mirroringNumbered (suc (suc (suc (suc n)))) = FourScreen
 
--- the revision of a number
+-- the revision of a number: 0 for A, any other for B
 abbrev pub revisionNumbered : ℕ → Revision
 revisionNumbered zero = A
 revisionNumbered (suc n) = B
 
--- both numbers name something
+-- both numbers name something: 0 to 4, and 0 or 1
 abbrev pub numbersNamed : (mirroring revision : ℕ) → Bool
 numbersNamed m r = leb m 4 && leb r 1
 
--- the first failing of 1, 2, 3 and 4; here 3 is a number that names nothing
+-- the first failing of 1, 2, 3 and 4; here 3 is a number that names nothing (01, The board's calls 3; 01, The board's calls 4)
 abbrev pub numberedRefusal : MemoryLayout → (mirroring revision : ℕ) → (fixed changing : List ℕ) → ℕ
 numberedRefusal l m r fixed changing =
     firstFailing (layoutChecks l (length fixed) (length changing) ++ (numbersNamed m r, 3) ∷ (allZero (take 1024 fixed), 4) ∷ [])
 
--- the board that `create` makes of what the numbers name, or refused the all-zero one, and the number
+-- the board that `create` makes of what the numbers name, or refused the all-zero one, and the refusal's number (01, The board's calls 3)
 abbrev pub createdBy : MemoryLayout → (mirroring revision : ℕ) → (fixed changing : List ℕ) → Created
 createdBy l m r fixed changing =
     record {
@@ -66,22 +66,23 @@ createdBy l m r fixed changing =
       refusal = numberedRefusal l m r fixed changing;
     }
 
--- ---- level and forecast, told in numbers
--- a level; refused it is 0.0 and silent, with the number
+-- ---- level and forecast, encoded as numbers
+-- a level; refused it is 0.0 and silent, with the refusal's number (01, The form to use in each place 12)
 abbrev pub levelEncoded : Level → EncodedLevel
 levelEncoded (Silent x) = record { level = x; name = 0; refusal = 0 }
 levelEncoded (Held x) = record { level = x; name = 1; refusal = 0 }
 levelEncoded (Playing x) = record { level = x; name = 2; refusal = 0 }
 levelEncoded (NoLevel n) = record { level = ofBits binary32 0; name = 0; refusal = n }
 
--- a forecast; where there is none, or it is refused, the clocks are 0
+-- a forecast; where there is none, or it is refused, the clocks are 0 (01, The form to use in each place 12)
 abbrev pub forecastEncoded : Forecast → EncodedForecast
 forecastEncoded None = record { clocks = 0; armed = false; refusal = 0 }
 forecastEncoded (In n) = record { clocks = n; armed = true; refusal = 0 }
 forecastEncoded (Refused n) = record { clocks = 0; armed = false; refusal = n }
 
--- ---- page view, told as a place
--- where the picture entry of an address points, counted in its own buffer: in the fixed one up to that one's length, from there on in the changing one
+-- ---- page view, encoded as a place
+-- where the picture entry of an address points, counted in its own buffer: in the fixed one up to that one's length, from there on in the
+-- changing one (01, The board's calls 2)
 abbrev pub pageAt : State → (address : ℕ) → PageAt
 pageAt x address =
     let at = offsetOf (entryOf picture (x .board) address) in
@@ -97,7 +98,7 @@ pageAt x address =
 abbrev pub tickNumber : (ticked : Bool) → (refusal : ℕ) → ℕ
 tickNumber ticked refusal = cond ticked 1 (cond (eqb refusal 0) 0 6)
 
--- a clock, its answer as that number
+-- a clock, its answer encoded as that number (01, The board's calls 1)
 abbrev pub clockNumbered : Board → Numbered
 clockNumbered b = record { board = clock b .board; number = tickNumber (clock b .ticked) (clock b .refusal) }
 

@@ -10,16 +10,16 @@ use Rattle.vrc6.specs.Boards.{State, Creation}
 use Rattle.vrc6.specs.Calls.{create, pageView, pageViewRefusal}
 use Rattle.host_answers.specs.Encoded.{createdBy, pageAt}
 
--- creation by the numbers of a mirroring and a revision is creation by these
+-- creation by the numbers of a mirroring and a revision is creation by these (01, The board's calls 1)
 abbrev pub CreateNumberedLaw : Type 0
 CreateNumberedLaw =
     (c : Creation) → createdBy (c .layout) (mirroringNumber (c .mirroring)) (flag (isB (c .revision))) (c .fixed) (c .changing) ≡ create c
 
--- the buffer that a page is told to lie in
+-- the buffer that `pageAt` places a page in
 abbrev pub bufferOf : State → (address : ℕ) → List ℕ
 bufferOf x address = cond (pageAt x address .changing) (x .changing) (x .fixed)
 
--- at the place told lie the 1,024 bytes that the view shows
+-- at the place returned lie the 1,024 bytes that the view shows (01, The board's calls 2)
 pub record PagePlaced (x : State) (address : ℕ) : Type 0 where
   pub shows : pageView x address ≡ take 1024 (drop (pageAt x address .offset) (bufferOf x address))
   pub inside : pageAt x address .offset + 1024 ≤ length (bufferOf x address)

@@ -1,7 +1,7 @@
 // What the lent forms answer, and the calls by value that they are made of: numbers in place of enums, which do not cross.
 use audio::Level;
 use memory_layout::MemoryLayout;
-use memory_tables::chr_table::chr_lookup;
+use memory_tables::chr_table::chr_entry;
 use vrc6::Board;
 use vrc6::board::Clocked;
 use vrc6::board::Created;
@@ -74,7 +74,7 @@ fn numbers_named(mirroring: u8, revision: u8) -> bool
     (mirroring <= 4) & (revision <= 1)
 }
 
-// A number that names nothing is refused by 3, after conditions 1 and 2.
+// Create refuses a number that names nothing by 3, after conditions 1 and 2.
 pub fn create_numbered(
     layout: MemoryLayout,
     mirroring: u8,
@@ -183,7 +183,7 @@ pub fn page_at(b: Board, fixed: &[u8], changing: &[u8], addr: u16) -> PageAt
         };
     }
     let pages = b.chr_pages;
-    let offset = chr_lookup(pages, addr).page().offset();
+    let offset = chr_entry(pages, addr).offset();
     let start = fixed.len();
     if (offset as usize) < start {
         return PageAt {

@@ -1,7 +1,11 @@
+pub mod Kit
 pub mod Elements
 pub mod Held
+pub mod Slots
 pub mod Walk
+pub mod StoreWalk
 pub mod BufferWalk
+pub mod ReadWalk
 pub mod Answers
 pub mod Parts
 pub mod Writes

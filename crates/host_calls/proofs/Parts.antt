@@ -21,19 +21,6 @@ tyAt [] k = tyUnit
 tyAt (local τ m ∷ ls) zero = τ
 tyAt (local τ m ∷ ls) (suc k) = tyAt ls k
 
--- what comes after the first statement
-abbrev pub after : Body → Body
-after skip = skip
-after (seq a b) = b
-after (assign p r) = skip
-after (block a) = skip
-after (loop a) = skip
-after (cond c a b) = skip
-after (switch c as′) = skip
-after (exit n) = skip
-after return = skip
-after (call f xs d) = skip
-
 -- the arms of a branch, which may stand before other statements
 abbrev pub arms : Body → Body × Body
 arms skip = (skip, skip)

@@ -1,4 +1,4 @@
--- What the lent forms answer beside the board that they advance (01, "The board's calls"). Assumes nothing.
+-- What the lent forms answer beside the board that they advance (01, The board's calls). Assumes nothing.
 use Prim.Native.Nat.{ℕ, _/_}
 use lib.Dec.{eqb}
 use Rattle.memory_access.specs.declared.Peeked.{Peeked}
@@ -10,7 +10,7 @@ use Rattle.host_calls.specs.declared.Tick.{Tick}
 abbrev pub tickAnswer : Clocked → Tick
 tickAnswer r = record { ticked = r .ticked; refusal = r .refusal }
 
--- the answer that the number of `vrc6_clock_number` tells (told's `tickNumber`)
+-- the answer that a number of `vrc6_clock_number` encodes, by host_answers' `tickNumber`
 abbrev pub tickDecoded : ℕ → Tick
 tickDecoded n = record { ticked = eqb n 1; refusal = n / 2 }
 

@@ -13,9 +13,10 @@ use host_answers::page_at;
 use host_answers::reset_board;
 use host_answers::steady_clock;
 use memory_access::Peeked;
-use memory_access::peek;
 use memory_layout::MemoryLayout;
 use vrc6::Board;
+use vrc6::reads::cpu_peek;
+use vrc6::reads::picture_peek;
 use vrc6::writes::reached;
 use vrc6::writes::write_byte;
 use vrc6_engine::steady::Steady;
@@ -118,7 +119,7 @@ pub extern "C" fn vrc6_cpu_read(
     let slot = (addr / 1024 % 64) as usize;
     let page = board.prg_pages[slot];
     let layout = board.layout;
-    peek(layout, page, fixed, changing, addr)
+    cpu_peek(layout, page, fixed, changing, addr)
 }
 
 #[no_mangle]
@@ -134,7 +135,7 @@ pub extern "C" fn vrc6_picture_read(
     let slot = (addr / 1024 % 16) as usize;
     let page = board.chr_pages[slot];
     let layout = board.layout;
-    peek(layout, page, fixed, changing, addr)
+    picture_peek(layout, page, fixed, changing, addr)
 }
 
 // The byte, then the register. The answer is the refusal's number.
@@ -196,8 +197,8 @@ pub struct Tick {
     pub refusal: u8,
 }
 
-// The answer that a number of `vrc6_clock_number` tells.
-fn told(number: u8) -> Tick
+// The answer that a number of `vrc6_clock_number` encodes.
+fn decoded(number: u8) -> Tick
     ensures { λ r. ⌜ r ≡ tickDecoded number ⌝ }
 {
     Tick {
@@ -231,7 +232,7 @@ pub extern "C" fn vrc6_clock(board: &mut Board) -> Tick
         return clock_steady(board, steady);
     } else {
         let number = vrc6_clock_number(board);
-        return told(number);
+        return decoded(number);
     }
 }
 

@@ -15,11 +15,11 @@ irqClockedTimes d l n q = times n (λ s. irqAnswer d l s .irq) q
 abbrev pub reported : (d l n : ℕ) → VrcIrq → ℕ
 reported d l n q = count n (λ s. irqAnswer d l s .ticked) (λ s. irqAnswer d l s .irq) q
 
--- the next clock ticks at 255, and so sets pending (01, Interrupt)
+-- the next clock ticks at 255, and so sets pending (01, Interrupt 1)
 abbrev pub irqSets : (d : ℕ) → VrcIrq → Bool
 irqSets d q = irqTicks d q && eqb (q .counter) 255
 
--- n is the least number of clocks, at least 1, of which the last sets pending (what a forecast means: 01, The board's calls)
+-- n is the least number of clocks, at least 1, of which the last sets pending: what a forecast is for
 pub record LeastClocks (d l : ℕ) (q : VrcIrq) (n : ℕ) : Type 0 where
   -- a clock is needed
   pub one : 1 ≤ n

@@ -1,4 +1,4 @@
--- The interrupt counter over a step d and a line length l (VRC IRQ; 01, Interrupt). Assumes nothing.
+-- The interrupt counter over a step d and a line length l (01, Interrupt; VRC IRQ). Assumes nothing.
 use mathlib.Core.Bool.{Bool, true, false, cond, not, _&&_, _||_}
 use Prim.Native.Nat.{ℕ, _+_, _-_, _*_, _/_}
 use lib.Dec.{eqb, leb}
@@ -9,19 +9,19 @@ use Rattle.irq.specs.declared.IrqClocked.{IrqClocked}
 use Rattle.irq.specs.declared.IrqForecast.{IrqForecast}
 use Rattle.irq.specs.declared.IrqForecast.the-variants.{None, In}
 
--- it counts lines: enabled, and not in cycle mode (01, Interrupt; scanline mode in VRC IRQ)
+-- it counts lines: enabled, and not in cycle mode; the wiki's scanline mode (01, Interrupt 1; VRC IRQ)
 abbrev pub countsLines : VrcIrq → Bool
 countsLines q = q .enabled && not (q .«cycle_mode»)
 
--- a clock ticks while enabled: in cycle mode always, else where the prescaler comes to 0 or less (01, Interrupt)
+-- a clock ticks while enabled: in cycle mode always, else where the prescaler comes to 0 or less (01, Interrupt 1)
 abbrev pub irqTicks : (d : ℕ) → VrcIrq → Bool
 irqTicks d q = q .enabled && (q .«cycle_mode» || leb (q .«prescalar_counter») d)
 
--- the counter after a tick: at 255 it reloads, else adds 1 (01, Interrupt)
+-- the counter after a tick: at 255 it reloads, else adds 1 (01, Interrupt 1)
 abbrev pub nextCounter : (reload counter : ℕ) → ℕ
 nextCounter r k = cond (eqb k 255) r (k + 1)
 
--- pending after a tick: at 255 it is set (01, Interrupt)
+-- pending after a tick: at 255 it is set (01, Interrupt 1)
 abbrev pub nextPending : (counter : ℕ) → Bool → Bool
 nextPending k b = cond (eqb k 255) true b
 
@@ -38,22 +38,22 @@ irqAt q k p b =
       «cycle_mode» = q .«cycle_mode»;
     }
 
--- a tick whose clock leaves the prescaler at p
+-- a tick whose clock leaves the prescaler at p (01, Interrupt 1)
 abbrev pub irqTick : (prescaler : ℕ) → VrcIrq → VrcIrq
 irqTick p q = irqAt q (nextCounter (q .reload) (q .counter)) p (nextPending (q .counter) (q .«irq_pending»))
 
--- a clock: the prescaler falls where lines are counted, and a tick moves the counter (01, Interrupt; VRC IRQ)
+-- a clock: the prescaler falls where lines are counted, and a tick moves the counter (01, Interrupt 1; VRC IRQ)
 abbrev pub irqClocked : (d l : ℕ) → VrcIrq → VrcIrq
 irqClocked d l q =
     irqAt q (cond (irqTicks d q) (nextCounter (q .reload) (q .counter)) (q .counter))
     (cond (countsLines q) (fallen d l (q .«prescalar_counter»)) (q .«prescalar_counter»))
     (cond (irqTicks d q) (nextPending (q .counter) (q .«irq_pending»)) (q .«irq_pending»))
 
--- a clock's answer: the next state, and whether it ticked (01, Interrupt)
+-- a clock's answer: the next state, and whether it ticked (01, Interrupt 1)
 abbrev pub irqAnswer : (d l : ℕ) → VrcIrq → IrqClocked
 irqAnswer d l q = record { irq = irqClocked d l q; ticked = irqTicks d q }
 
--- $F000, reload (VRC IRQ)
+-- $F000, reload (01, Interrupt 1; VRC IRQ)
 abbrev pub irqReload : (v : ℕ) → VrcIrq → VrcIrq
 irqReload v q =
     record {
@@ -66,7 +66,7 @@ irqReload v q =
       «cycle_mode» = q .«cycle_mode»;
     }
 
--- $F001, control (VRC IRQ)
+-- $F001, control (01, Interrupt 1; VRC IRQ)
 abbrev pub irqControl : (l v : ℕ) → VrcIrq → VrcIrq
 irqControl l v q =
     record {
@@ -79,7 +79,7 @@ irqControl l v q =
       «cycle_mode» = bit 2 v;
     }
 
--- $F002, acknowledge (VRC IRQ)
+-- $F002, acknowledge (01, Interrupt 1; VRC IRQ)
 abbrev pub irqAcknowledged : VrcIrq → VrcIrq
 irqAcknowledged q =
     record {
@@ -92,7 +92,7 @@ irqAcknowledged q =
       «cycle_mode» = q .«cycle_mode»;
     }
 
--- at creation and after a reset, soft or hard: all clear (01, Interrupt)
+-- at creation and after a reset, soft or hard: all clear (01, Interrupt 1; 01, Banks and decode 2)
 abbrev pub irqZero : VrcIrq
 irqZero =
     record {
@@ -105,15 +105,15 @@ irqZero =
       «cycle_mode» = false;
     }
 
--- the one value that is checked: a prescaler in 0 .. l (01, Records)
+-- the one value that is checked: a prescaler in 0 .. l (01, Records 5)
 abbrev pub irqInRange : (l : ℕ) → VrcIrq → Bool
 irqInRange l q = leb (q .«prescalar_counter») l
 
--- the forecast of an enabled counter, by the formula of 01, The board's calls
+-- the forecast of an enabled counter, by the formula (01, The board's calls 2)
 abbrev pub forecastIn : (d l : ℕ) → VrcIrq → ℕ
 forecastIn d l q =
     cond (q .«cycle_mode») (256 - q .counter) ((l * (255 - q .counter) + q .«prescalar_counter» + (d - 1)) / d)
 
--- the forecast: None if not enabled (01, The board's calls)
+-- the forecast: None if not enabled (01, The board's calls 2)
 abbrev pub irqForecast : (d l : ℕ) → VrcIrq → IrqForecast
 irqForecast d l q = cond (q .enabled) (In (forecastIn d l q)) None

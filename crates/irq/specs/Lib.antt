@@ -1,4 +1,5 @@
 pub mod Interrupt
 pub mod Timing
+pub mod Writes
 pub mod Clocks
 pub mod Laws

@@ -1,8 +1,12 @@
 // The interrupt counter of the VRC chips, which ticks at each clock or once a line (VRC IRQ; vrc_irq.rs).
-
+use registers::IrqRegister;
+use registers::Register;
+use registers::decode;
 ghost use mathlib.Core.Path.{_≡_};
+ghost use Rattle.registers.specs.Decode.{decode};
 ghost use Rattle.irq.specs.Interrupt.{irqTick, irqReload, irqAcknowledged, irqZero};
 ghost use Rattle.irq.specs.Timing.{prescalerFallen, clockAnswer, controlWritten, irqHeld, forecastAnswer};
+ghost use Rattle.irq.specs.Writes.{irqWritten, irqWrittenTo};
 
 // What a clock takes from the prescaler.
 pub const STEP: u16 = 3;
@@ -88,6 +92,28 @@ impl VrcIrq {
         irq.enabled = self.enabled_after_ack;
         irq.irq_pending = false;
         irq
+    }
+
+    pub fn write_register(self, register: IrqRegister, val: u8) -> Self
+        ensures { λ r. ⌜ r ≡ irqWritten register val self ⌝ }
+    {
+        match register {
+            IrqRegister::Reload => self.write_reload(val),
+            IrqRegister::Control => self.write_control(val),
+            IrqRegister::Acknowledge => self.acknowledge(),
+        }
+    }
+
+    // A CPU write, which changes the counter only where it reaches one of its registers.
+    pub fn write_at(self, revision_b: bool, addr: u16, val: u8) -> Self
+        ensures { λ r. ⌜ r ≡ irqWrittenTo (decode «revision_b» addr) val self ⌝ }
+    {
+        match decode(revision_b, addr) {
+            Register::Nothing => self,
+            Register::OfBank(bank) => self,
+            Register::OfAudio(sound) => self,
+            Register::OfIrq(line) => self.write_register(line, val),
+        }
     }
 
     // A tick, with the prescaler that its clock leaves.

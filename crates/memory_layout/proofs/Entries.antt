@@ -1,18 +1,18 @@
 -- The parts of an entry, and the lookup. Assumes nothing.
 use mathlib.Core.Path.{_≡_, refl, sym, ap}
 use mathlib.Core.Bool.{Bool, true, false, cond, not, _&&_, _||_}
-use Prim.Native.Nat.{ℕ, _+_, _%_, _^_, _≤_, _<_}
+use Prim.Native.Nat.{ℕ, _+_, _*_, _%_, _^_, _≤_, _<_}
 use native.Mathlib.Omega.{arith}
 use lib.Dec.{eqb, leb}
 use borrow.Author.Tests.{eqb-true, eq-eqb, ne-eqb, le-leb}
 use Rattle.memory_layout.specs.declared.page.Page.{Page}
 use Rattle.memory_layout.specs.declared.regions.MemoryLayout.{MemoryLayout}
 use Rattle.memory_layout.specs.declared.page.Lookup.the-variants.{Unmapped, Mapped}
-use Rattle.memory_layout.specs.Pages.{entry, unmapped, isUnmapped, offset, writable, spare}
+use Rattle.memory_layout.specs.Pages.{entry, unmapped, isUnmapped, offset, writable, spare, pagesOn}
 use Rattle.memory_layout.specs.Pages.{serving, found}
 use Rattle.memory_layout.specs.Layout.{fixedLength, changingLength}
 use Rattle.memory_layout.specs.Entries.{entryInRange}
-use Rattle.memory_layout.specs.Laws.{EntryLaw, LookupLaw, UnmappedLaw}
+use Rattle.memory_layout.specs.Laws.{BitsLaw, EntryLaw, LookupLaw, PagesOnLaw, UnmappedLaw}
 
 pub offset-of : (at : ℕ) (w : Bool) → at < 2 ^ 30 → offset (entry at w) ≡ at
 offset-of at true h = omega arith
@@ -28,6 +28,20 @@ spare-of at false = omega (arith, ne-eqb)
 
 pub entry-law : EntryLaw
 entry-law = record { offset-is = offset-of; writable-is = writable-of; spare-clear = spare-of }
+
+-- ---- pages on
+pub entry-on : (at : ℕ) (w : Bool) (n : ℕ) → at + 1024 * n < 2 ^ 30 → pagesOn (entry at w) n ≡ entry (at + 1024 * n) w
+entry-on at true n h = ap (λ (x : ℕ). record { 0 = x }) (omega arith)
+entry-on at false n h = ap (λ (x : ℕ). record { 0 = x }) (omega arith)
+
+pub on-again : (e : Page) (m n : ℕ) → pagesOn (pagesOn e m) n ≡ pagesOn e (m + n)
+on-again e m n = ap (λ (x : ℕ). record { 0 = x }) (omega arith)
+
+pub pages-on-law : PagesOnLaw
+pages-on-law = record { entry-on = entry-on; on-again = on-again }
+
+pub bits-law : BitsLaw
+bits-law = record { there = λ e. refl; back = λ n. refl }
 
 pub lookup-law : LookupLaw
 lookup-law e = go (isUnmapped e) refl

@@ -1,10 +1,11 @@
 // A page entry. It has a type of its own, so that it is never taken for an offset or a bank number.
 ghost use mathlib.Core.Path.{_≡_};
-ghost use Rattle.memory_layout.specs.Pages.{entry, found, isUnmapped, offset, serving, spare, writable};
+ghost use Prim.Native.Nat.{_+_, _*_, _^_, _<_};
+ghost use Rattle.memory_layout.specs.Pages.{bits, entry, found, isUnmapped, pageOfBits, offset, pagesOn, serving, spare, writable};
 
 // Bits 0 to 29 hold an offset into the buffers, bit 31 says that the page takes writes, bit 30 is clear.
 #[repr(C)]
-pub struct Page(pub u32);
+pub struct Page(u32);
 
 impl Page {
     // Shows the page of zeros, ignores writes.
@@ -43,6 +44,28 @@ impl Page {
         ensures { λ r. ⌜ r ≡ spare self ⌝ }
     {
         self.0 / 0x4000_0000 % 2 == 1
+    }
+
+    // The entry n pages on in the buffers, with the same mark.
+    pub fn pages_on(self, n: u32) -> Page
+        requires { ⌜ offset self + 1024 * n < 2 ^ 30 ⌝ }
+        ensures { λ r. ⌜ r ≡ pagesOn self n ⌝ }
+    {
+        Page(self.0 + 1024 * n)
+    }
+
+    // The entry as document 01 writes it: the offset in bits 0 to 29, writable in bit 31.
+    pub fn bits(self) -> u32
+        ensures { λ r. ⌜ r ≡ bits self ⌝ }
+    {
+        self.0
+    }
+
+    // The entry that document 01 writes so.
+    pub fn of_bits(bits: u32) -> Page
+        ensures { λ r. ⌜ r ≡ pageOfBits bits ⌝ }
+    {
+        Page(bits)
     }
 
     pub fn lookup(self) -> Lookup

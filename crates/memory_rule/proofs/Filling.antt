@@ -1,15 +1,13 @@
 -- The table of eight runs as its loops fill it. Assumes nothing.
-use mathlib.Core.Path.{_≡_, ap₂, subst}
+use mathlib.Core.Path.{_≡_, ap₂, subst, _∙_}
 use mathlib.Core.List.{List, [], _∷_}
-use Prim.Native.Nat.{ℕ, zero, suc, _+_, _*_, _/_, _%_, _≤_, _<_}
+use Prim.Native.Nat.{ℕ, zero, suc, _+_, _*_, _/_, _%_, _^_, _≤_, _<_}
 use native.Mathlib.Omega.{arith}
 use native.Mathlib.Nat.{mul-le-mul}
 use lib.ListN.{replicate, set}
-use mir.Syntax.{w32}
-use mir.Val.{Fits}
 use Rattle.base_shared.proofs.Runs.{Filled, more, done}
 use Rattle.memory_layout.specs.declared.page.Page.{Page}
-use Rattle.memory_layout.specs.Pages.{unmapped}
+use Rattle.memory_layout.specs.Pages.{offset, unmapped}
 use Rattle.memory_rule.specs.declared.runs.EntryRun.{EntryRun}
 use Rattle.memory_rule.specs.Required.{AllSmall, Small, nth, runAt, runEntry}
 use Rattle.base_shared.specs.Lists.{tabulate}
@@ -19,14 +17,15 @@ module _ (runs : List EntryRun) where
   abbrev pub Stored : List Page → ℕ → Type 0
   Stored t n = Filled (replicate 64 unmapped) 0 64 (runEntry runs) t n
 
-  pub stored-next : (t : List Page) (k i : ℕ) → k < 8 → i < 8 → Stored t (8 * k + i) → Stored (set t (8 * k + i) (nth (runAt runs k) i)) (8 * k + (i + 1))
-  stored-next t k i h l s =
+  pub stored-next : (t : List Page) (k i : ℕ) (e : Page) → k < 8 → i < 8 → Stored t (8 * k + i) → e ≡ nth (runAt runs k) i
+      → Stored (set t (8 * k + i) e) (8 * k + (i + 1))
+  stored-next t k i e h l s is =
       let at : k ≡ (8 * k + i) / 8 = omega arith in
       let within : i ≡ (8 * k + i) % 8 = omega arith in
       let place : 0 + (8 * k + i) ≡ 8 * k + i = omega arith in
       let count : 8 * k + i + 1 ≡ 8 * k + (i + 1) = omega arith in
       rw (place, count) at
-      (more (replicate 64 unmapped) 0 64 (runEntry runs) t (8 * k + i) (nth (runAt runs k) i) s (omega arith) (ap₂ (λ (a b : ℕ). nth (runAt runs a) b) at within))
+      (more (replicate 64 unmapped) 0 64 (runEntry runs) t (8 * k + i) e s (omega arith) (is ∙ ap₂ (λ (a b : ℕ). nth (runAt runs a) b) at within))
 
   pub stored-run : (t : List Page) (k i : ℕ) → i ≤ 8 → 8 ≤ i → Stored t (8 * k + i) → Stored t (8 * (k + 1))
   stored-run t k i h l s = let e : 8 * k + i ≡ 8 * (k + 1) = omega arith in subst (Stored t) e s
@@ -35,14 +34,11 @@ module _ (runs : List EntryRun) where
   stored-all t k h s = done (replicate 64 unmapped) 0 64 (runEntry runs) t (8 * k) s (omega arith)
 
   module _ (h : AllSmall runs) (k i : ℕ) (l : i < 8) where
-    far : runAt runs k .step * i ≤ 1024 * 8
-    far = let few : i ≤ 8 = omega arith in mul-le-mul (h .each k .step) few
+    pub far : runAt runs k .step * i ≤ 1 * 7
+    far = let few : i ≤ 7 = omega arith in mul-le-mul (h .each k .step) few
 
-    pub far-fits : Fits w32 (runAt runs k .step * i)
-    far-fits = record { fits = omega (arith, far) }
-
-    pub nth-fits : Fits w32 (nth (runAt runs k) i .0)
-    nth-fits = record { fits = omega (arith, far, h .each k .first) }
+    pub nth-low : offset (runAt runs k .first) + 1024 * (runAt runs k .step * i) < 2 ^ 30
+    nth-low = omega (arith, far, h .each k .first)
 
 -- runs that are small one by one
 pub small-none : AllSmall []

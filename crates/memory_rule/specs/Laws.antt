@@ -9,14 +9,14 @@ use Rattle.memory_layout.specs.Layout.{withinLimits, region}
 use Rattle.memory_layout.specs.Entries.{entryInRange}
 use Rattle.memory_rule.specs.Rule.{remEuclid, shown}
 
--- the remainder is the one number below m that differs from b by a multiple of m
+-- the remainder is the one number below m that differs from b by a multiple of m (01, Paging 2)
 pub record RemainderLaw : Type 0 where
   pub below : (b : ℤ) (m : ℕ) → 0 < m → remEuclid b m < m
   pub small : (n m : ℕ) → n < m → remEuclid (pos n) m ≡ n
   pub again : (b : ℤ) (m : ℕ) → 0 < m → remEuclid (b +ℤ pos m) m ≡ remEuclid b m
 
--- every entry that the paging rule gives a layout within its limits is one that the layout's boards can hold;
--- the window is a whole number of pages long
+-- every entry that the paging rule gives a layout within its limits is one that the layout's boards can hold; the window is a whole
+-- number of pages long (01, Paging 2; 01, The board's calls 4)
 abbrev pub ShownLaw : Type 0
 ShownLaw =
     (l : MemoryLayout) → withinLimits l ≡ true → (src : Src) (pages : ℕ) (b : ℤ) (i : ℕ)

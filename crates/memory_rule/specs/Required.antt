@@ -9,6 +9,7 @@ use lib.ListN.{getD}
 use Rattle.base_shared.specs.Lists.{tabulate}
 use Rattle.memory_layout.specs.declared.page.Page.{Page}
 use Rattle.memory_layout.specs.declared.regions.Region.{Region}
+use Rattle.memory_layout.specs.Pages.{offset, pagesOn, unmapped}
 use Rattle.memory_rule.specs.declared.runs.EntryRun.{EntryRun}
 use Rattle.memory_rule.specs.Rule.{shown}
 
@@ -30,28 +31,36 @@ pub record Held (r : Region) (s k : ℕ) : Type 0 where
   pub whole : held r s ≡ true
   pub inside : 8_192 * k + 8_192 ≤ s
 
+-- the entries 8 k to 8 k + 7 of a window
 abbrev pub octet : Region → (s : ℕ) → ℤ → (k : ℕ) → List Page
 octet r s b k = tabulate 8 (λ i. shown r s b (8 * k + i))
 
 -- ---- runs of eight entries
 -- entry i of a run
 abbrev pub nth : EntryRun → (i : ℕ) → Page
-nth r i = record { 0 = r .first + r .step * i }
+nth r i = pagesOn (r .first) (r .step * i)
 
+-- the eight entries of a run
 abbrev pub runEntries : EntryRun → List Page
 runEntries r = tabulate 8 (nth r)
 
+-- eight times the unmapped entry: `EntryRun::UNMAPPED`
+abbrev pub unmappedRun : EntryRun
+unmappedRun = record { first = unmapped; step = 0 }
+
+-- run k of a list of runs
 abbrev pub runAt : List EntryRun → (k : ℕ) → EntryRun
-runAt runs k = getD runs k (record { first = 0; step = 0 })
+runAt runs k = getD runs k unmappedRun
 
 -- entry i of runs one after the other
 abbrev pub runEntry : List EntryRun → (i : ℕ) → Page
 runEntry runs i = nth (runAt runs (i / 8)) (i % 8)
 
--- no entry of the run passes 2 ^ 32
+-- every page of the run ends below 2 ^ 30
 pub record Small (r : EntryRun) : Type 0 where
-  pub first : r .first ≤ 2 ^ 31 + 2 ^ 30
-  pub step : r .step ≤ 1024
+  pub first : offset (r .first) + 8_192 ≤ 2 ^ 30
+  pub step : r .step ≤ 1
 
+-- no entry of the runs passes 2 ^ 32
 pub record AllSmall (runs : List EntryRun) : Type 0 where
   pub each : (k : ℕ) → Small (runAt runs k)

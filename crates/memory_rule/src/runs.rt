@@ -1,5 +1,5 @@
-// Windows that do not wrap. A region that is as long as its window shows it page after page, so that entry follows entry by
-// the same step, and only the first one needs the paging rule.
+// Windows that do not wrap. A region that is as long as its window shows it page after page, so that only the first entry
+// needs the paging rule.
 use crate::first_page;
 use memory_layout::Page;
 use memory_layout::Region;
@@ -7,10 +7,18 @@ ghost use mathlib.Core.Path.{_≡_};
 ghost use Rattle.base_shared.specs.Lists.{tabulate};
 ghost use Rattle.memory_rule.specs.Required.{AllSmall, Held, Small, held, octet, runEntries, runEntry};
 
-// Eight entries: the first, and what each adds to the one before.
+// Eight entries: the first, and how many pages each lies behind the one before, which is 1 or, if all are the same, 0.
 pub struct EntryRun {
-    pub first: u32,
+    pub first: Page,
     pub step: u32,
+}
+
+impl EntryRun {
+    // Shows the page of zeros eight times.
+    pub const UNMAPPED: EntryRun = EntryRun {
+        first: Page::UNMAPPED,
+        step: 0,
+    };
 }
 
 // Whether a window of size bytes on the region does not wrap: the region is as long, or has no bytes at all.
@@ -26,13 +34,10 @@ pub fn window_run(region: Region, size: u32, bank: i32, k: u32) -> EntryRun
     ensures { λ r. ⌜ (runEntries r ≡ octet region size bank k) × Small r ⌝ }
 {
     if region.len == 0 {
-        return EntryRun { first: 0, step: 0 };
+        return EntryRun::UNMAPPED;
     }
-    let page = first_page(region, size, bank);
-    EntryRun {
-        first: page.0 + 8192 * k,
-        step: 1024,
-    }
+    let first = first_page(region, size, bank).pages_on(8 * k);
+    EntryRun { first, step: 1 }
 }
 
 // The CPU's table, run by run.
@@ -47,7 +52,7 @@ pub fn run_table(runs: [EntryRun; 8]) -> [Page; 64]
         let mut i: u32 = 0;
         while i < 8 {
             let at = 8 * k + i as usize;
-            pages[at] = Page(run.first + run.step * i);
+            pages[at] = run.first.pages_on(run.step * i);
             i += 1;
         }
         k += 1;

@@ -1,4 +1,4 @@
--- Windows of the two tables, and the entry that serves an address (01, Paging; memory.rs, `map_pages`). Assumes nothing.
+-- Windows of the two tables, and the entry that serves an address (01, Paging; memory.rs, map_pages). Assumes nothing.
 use mathlib.Core.List.{List}
 use Prim.Native.Nat.{ℕ, _/_, _%_}
 use lib.IntN.{ℤ}
@@ -10,28 +10,28 @@ use Rattle.memory_layout.specs.declared.regions.Region.{Region}
 use Rattle.memory_layout.specs.Pages.{unmapped}
 use Rattle.memory_rule.specs.Rule.{shown}
 
--- the entries of a window of s bytes on bank b, one for each of its pages
+-- the entries of a window of s bytes on bank b, one for each of its pages (01, Paging 2)
 abbrev pub window : Region → (s : ℕ) → ℤ → List Page
 window r s b = tabulate (s / 1024) (shown r s b)
 
--- a table of which a run is replaced, from the entry of an address on; of 64 entries or of 16 (`map_prg`, `map_chr`)
+-- a table of which a run is replaced, from the entry of an address on (01, Paging 1; memory.rs, map_prg; memory.rs, map_chr)
 abbrev pub replaced : List Page → (address : ℕ) → List Page → List Page
 replaced table address run = sets table (address / 1024) run
 
--- the entries of a window of s bytes that shows nothing (`unmap_prg`)
+-- the entries of a window of s bytes that shows nothing (01, Paging 1; memory.rs, unmap_prg)
 abbrev pub nothing : (s : ℕ) → List Page
 nothing s = tabulate (s / 1024) (λ _. unmapped)
 
 -- ---- the entry that serves an address
--- the CPU's table or the picture side's
+-- the CPU's table or the picture side's (01, Records 3)
 pub data Side : Type 0 where
   cpu picture : Side
 
--- 64 entries serve the CPU, 16 the picture side (01, Records)
+-- 64 entries serve the CPU, 16 the picture side (01, Records 3)
 abbrev pub entryCount : Side → ℕ
 entryCount cpu = 64
 entryCount picture = 16
 
--- the entry at address / 1,024, modulo 64 or 16 (01, Paging)
+-- the entry at address / 1,024, modulo 64 or 16 (01, Paging 2)
 abbrev pub entryFor : Side → List Page → (address : ℕ) → Page
 entryFor s table address = getD table (address / 1024 % entryCount s) unmapped

@@ -1,19 +1,17 @@
-// The CPU's table of 64 entries: the lookup of an address, and windows that are mapped and unmapped.
-use memory_layout::Lookup;
+// The CPU's table of 64 entries: the entry of an address, and windows that are mapped and unmapped.
 use memory_layout::Page;
 use memory_layout::Region;
 use memory_rule::window_page;
 ghost use mathlib.Core.Path.{_≡_};
-ghost use Rattle.memory_layout.specs.Pages.{found};
 ghost use Rattle.memory_tables.specs.Required.{Inside, Window};
 ghost use Rattle.memory_tables.specs.Paging.{cpu, entryFor, nothing, replaced, window};
 
-pub fn prg_lookup(pages: [Page; 64], addr: u16) -> Lookup
-    ensures { λ r. ⌜ r ≡ found (entryFor cpu pages addr) ⌝ }
+// The entry that serves a CPU address.
+pub fn prg_entry(pages: [Page; 64], addr: u16) -> Page
+    ensures { λ r. ⌜ r ≡ entryFor cpu pages addr ⌝ }
 {
     let slot = (addr / 1024 % 64) as usize;
-    let page = pages[slot];
-    page.lookup()
+    pages[slot]
 }
 
 // Maps a window of the CPU's addresses to a bank of a region.

@@ -4,7 +4,7 @@ use mathlib.Core.Bool.{Bool}
 use Prim.Native.Nat.{ℕ, zero, suc, _+_, _*_, _/_, _≤_, _<_}
 use native.Mathlib.Omega.{arith}
 use lib.ListN.{drop, replicate, getD-replicate, List·getD-append}
-use Rattle.audio_channels.specs.declared.channel.ChannelRegister.the-variants.{FrequencyHigh}
+use Rattle.registers.specs.declared.ChannelRegister.the-variants.{FrequencyHigh}
 use Rattle.registers.specs.declared.Register.{Register}
 use Rattle.registers.specs.declared.Register.the-variants.{Nothing}
 use Rattle.registers.specs.Decode.{channelRegister, decode, lines, registerAt, registers}

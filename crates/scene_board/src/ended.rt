@@ -32,7 +32,7 @@ fn slots_shown(layout: MemoryLayout, pages: [Page; 16]) -> [u32; 8]
     ]
 }
 
-// No clock changes what slots show, so the menu is played right behind the writes. Steps are given as their numbers, mirroring and
+// No clock changes what slots show, so the menu plays right behind the writes. Steps come as their numbers, mirroring and
 // revision as in `create_numbered`.
 pub fn play_scene(
     layout: MemoryLayout,

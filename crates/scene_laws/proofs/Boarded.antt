@@ -11,7 +11,7 @@ use Rattle.registers.specs.Decode.{decode}
 use Rattle.vrc6_banking.specs.declared.banking.Banking.{Banking}
 use Rattle.vrc6_banking.specs.Banking.{bankWritten}
 use Rattle.irq.specs.Timing.{clockAnswer}
-use Rattle.vrc6_engine.specs.Writes.{irqAfter as registerTaken}
+use Rattle.irq.specs.Writes.{irqWrittenTo}
 use Rattle.vrc6.specs.declared.board.Board.{Board}
 use Rattle.vrc6.specs.Boards.{State}
 use Rattle.vrc6.specs.Calls.{registerWritten, clocked}
@@ -30,7 +30,7 @@ same-revision Mode v b = refl
 same-revision (Chr i) v b = refl
 
 module _ (v : ℕ) (b : Board) where
-  counter-taken : (r : Register) → registerWritten r v b .irq ≡ registerTaken r v (b .irq)
+  counter-taken : (r : Register) → registerWritten r v b .irq ≡ irqWrittenTo r v (b .irq)
   counter-taken Nothing = refl
   counter-taken (OfBank r) = refl
   counter-taken (OfAudio r) = refl

@@ -24,7 +24,7 @@ use Rattle.irq.proofs.Runs.{idle-law}
 use Rattle.irq.proofs.Ranges.{prescaler-law, bytes-law}
 use Rattle.irq.proofs.Forecasts.{pending-law}
 use Rattle.irq.proofs.Board.{pace}
-use Rattle.vrc6_engine.specs.Writes.{irqAfter as registerTaken}
+use Rattle.irq.specs.Writes.{irqWrittenTo}
 use Rattle.vrc6_calls.specs.declared.Call.{Call}
 use Rattle.vrc6_calls.specs.declared.Call.the-variants.{Clock}
 use Rattle.vrc6_ledger.specs.Ledger.{event}
@@ -42,7 +42,7 @@ pub record Fine (q : VrcIrq) : Type 0 where
 pub fine-clocked : (q : VrcIrq) → Fine q → Fine (clockAnswer q .irq)
 fine-clocked q f = record { bytes = bytes-law lineStep lineLength q .clock (f .bytes); range = prescaler-law lineStep lineLength pace q .clock (f .range) }
 
-pub fine-taken : (r : Register) (v : ℕ) (q : VrcIrq) → v ≤ 255 → Fine q → Fine (registerTaken r v q)
+pub fine-taken : (r : Register) (v : ℕ) (q : VrcIrq) → v ≤ 255 → Fine q → Fine (irqWrittenTo r v q)
 fine-taken Nothing v q h f = f
 fine-taken (OfBank r) v q h f = f
 fine-taken (OfAudio r) v q h f = f
@@ -62,7 +62,7 @@ pub record Ready (q : VrcIrq) : Type 0 where
   pub clear : q .«irq_pending» ≡ false
 
 -- a register leaves pending alone or clears it
-pub taken-clear : (r : Register) (v : ℕ) (q : VrcIrq) → q .«irq_pending» ≡ false → registerTaken r v q .«irq_pending» ≡ false
+pub taken-clear : (r : Register) (v : ℕ) (q : VrcIrq) → q .«irq_pending» ≡ false → irqWrittenTo r v q .«irq_pending» ≡ false
 taken-clear Nothing v q h = h
 taken-clear (OfBank r) v q h = h
 taken-clear (OfAudio r) v q h = h
@@ -70,7 +70,7 @@ taken-clear (OfIrq Reload) v q h = h
 taken-clear (OfIrq Control) v q h = refl
 taken-clear (OfIrq Acknowledge) v q h = refl
 
-pub ready-taken : (r : Register) (v : ℕ) (q : VrcIrq) → v ≤ 255 → Ready q → Ready (registerTaken r v q)
+pub ready-taken : (r : Register) (v : ℕ) (q : VrcIrq) → v ≤ 255 → Ready q → Ready (irqWrittenTo r v q)
 ready-taken r v q h f = record { fine = fine-taken r v q h (f .fine); clear = taken-clear r v q (f .clear) }
 
 pub ready-zero : Ready irqZero

@@ -9,8 +9,8 @@ use Rattle.memory_rule.specs.Rule.{bankCount}
 use Rattle.vrc6_tables.specs.Tables.{onePage}
 use Rattle.scene_board.specs.Shown.{bankShown}
 
--- of a layout within its limits that has CHR, an entry that a slot's window makes for bank v is told as bank v modulo the count of banks;
--- every slot's entry is such a one (tables' `pictureEntries`)
+-- of a layout within its limits that has CHR, an entry that a slot's window makes for bank v shows as bank v modulo the count of banks;
+-- every slot's entry is such a one, by vrc6_tables' `pictureEntries` (01, Paging 2)
 abbrev pub BankLaw : Type 0
 BankLaw =
     (l : MemoryLayout) → withinLimits l ≡ true → 1 ≤ region l Chr .len → (v : ℕ)

@@ -49,7 +49,7 @@ RiseLaw =
 
 -- ---- the sweep on the board
 -- a board x with pending clear and no interrupt due within k clocks: if after k clocks the handler runs, and then m clocks, pending is
--- first set by the clock that the sweep tells, and by none if it tells none
+-- first set by the clock that the sweep reports, and by none if it reports none
 abbrev pub Comes : (x : State) (k : ℕ) (codes : List ℕ) (m : ℕ) → Type 0
 Comes x k codes m =
     RiseFound (cameAt (x .board .banking .«revision_b») (x .board .irq) k codes) (clockCount (callsAround k codes m)) (risesAt x (callsAround k codes m) 0)

@@ -20,11 +20,11 @@ use Rattle.scene_moments.specs.declared.moment.Came.the-variants.{Never, On}
 use Rattle.scene_moments.specs.Moments.{came, clocksDue, dueWithin, moment}
 
 -- ---- the calls
--- of k clocks, then a handler, then m clocks
+-- the calls of k clocks, then a handler, then m clocks
 abbrev pub callsAround : (k : ℕ) → List ℕ → (m : ℕ) → List Call
 callsAround k codes m = replicate k Clock ++ (callsOf codes ++ replicate m Clock)
 
--- a call whose byte for a register is a byte
+-- an event whose byte for a register is a byte
 abbrev pub ByteEvent : Event → Type 0
 ByteEvent (cpuWrites a v) = v ≤ 255
 ByteEvent (pictureWrites a v) = Unit {0}
@@ -32,7 +32,7 @@ ByteEvent (clocks n) = Unit {0}
 ByteEvent resets = Unit {0}
 ByteEvent looks = Unit {0}
 
--- the same of a call
+-- a call whose byte for a register is a byte
 abbrev pub OfByte : Call → Type 0
 OfByte k = ByteEvent (event k)
 

@@ -1,4 +1,4 @@
--- What the tool tells of a scene, on the board. `proofs/` proves it. Assumes nothing.
+-- What the tool reports of a scene, on the board. `proofs/` proves it. Assumes nothing.
 use mathlib.Core.Path.{_≡_}
 use mathlib.Core.Bool.{false}
 use mathlib.Core.List.{List}

@@ -8,6 +8,6 @@ use Rattle.irq.specs.Timing.{lineStep, lineLength}
 abbrev pub firstPrescaler : (prescaler : ℕ) → ℕ
 firstPrescaler p = cond (eqb p 0) lineLength p
 
--- the line of clock c: (3 c + 341 - p) / 341, rounded down; the same as demand 3's ticks (01, Demand 3's lists and their ledger)
+-- the line of clock c: (3 c + 341 - p) / 341, rounded down; the same as demand 3's ticks (00, 3; docs/SCENES.md)
 unfoldable pub lineOf : (clock prescaler : ℕ) → ℕ
 lineOf c p = (lineStep * c + lineLength - firstPrescaler p) / lineLength

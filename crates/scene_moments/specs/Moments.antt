@@ -10,7 +10,7 @@ use Rattle.irq.specs.declared.IrqForecast.the-variants.{None, In}
 use Rattle.irq.specs.Interrupt.{irqZero}
 use Rattle.irq.specs.Timing.{lineStep, lineLength, forecastAnswer}
 use Rattle.irq.specs.Clocks.{irqClockedTimes}
-use Rattle.vrc6_engine.specs.Writes.{irqAfter as registerTaken}
+use Rattle.irq.specs.Writes.{irqWrittenTo}
 use Rattle.scene_steps.specs.declared.step.Step.{Step}
 use Rattle.scene_steps.specs.declared.step.Step.the-variants.{Write, Clocks, Reset, Wrong}
 use Rattle.scene_steps.specs.Steps.{stepCoded}
@@ -18,12 +18,12 @@ use Rattle.scene_moments.specs.declared.moment.Moment.{Moment}
 use Rattle.scene_moments.specs.declared.moment.Came.{Came}
 use Rattle.scene_moments.specs.declared.moment.Came.the-variants.{Never, On}
 
--- the clocks that a forecast means, 0 for never: one where it says 0 (vrc_irq's ShortForecastLaw)
+-- the clocks that a forecast means, 0 for never: one where it says 0, by irq's `ShortForecastLaw`
 abbrev pub dueFrom : IrqForecast → ℕ
 dueFrom None = 0
 dueFrom (In n) = cond (eqb n 0) 1 n
 
--- the clocks until a counter's interrupt; `DueLaw` says that they are the least
+-- the clocks until a counter's interrupt; `ClocksDueLaw` of scene_laws says that they are the least
 abbrev pub clocksDue : VrcIrq → ℕ
 clocksDue q = dueFrom (forecastAnswer q)
 
@@ -48,7 +48,7 @@ waited n m =
 
 -- a step: a write reaches the counter's register or leaves it alone, a reset clears it
 abbrev pub stepTaken : (revisionB : Bool) → Step → Moment → Moment
-stepTaken b (Write a v) m = moment (registerTaken (decode b a) v (m .irq)) (m .clock)
+stepTaken b (Write a v) m = moment (irqWrittenTo (decode b a) v (m .irq)) (m .clock)
 stepTaken b (Clocks n) m = waited n m
 stepTaken b Reset m = moment irqZero (m .clock)
 stepTaken b (Wrong n) m = m

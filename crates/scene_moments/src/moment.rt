@@ -5,7 +5,6 @@ use irq::STEP;
 use irq::VrcIrq;
 use scene_steps::Step;
 use scene_steps::step::step_coded;
-use vrc6_engine::writes::irq_written;
 ghost use mathlib.Core.Path.{_≡_};
 ghost use mathlib.Core.Bool.{false};
 ghost use Prim.Native.Nat.{_+_, _≤_};
@@ -54,7 +53,7 @@ fn gained(irq: VrcIrq, ticks: u32, prescaler: u32) -> VrcIrq
     q
 }
 
-// The counter after n clocks that count lines. A division tells the lines that end within them.
+// The counter after n clocks that count lines. A division gives the lines that end within them.
 fn lines_gone(irq: VrcIrq, n: u32) -> VrcIrq
     requires { ⌜ LinesGo irq n ⌝ }
     ensures { λ r. ⌜ r ≡ irqClockedTimes lineStep lineLength n irq ⌝ }
@@ -117,7 +116,7 @@ impl Moment {
         let clock = self.clock;
         match given {
             Step::Write(addr, val) => Moment {
-                irq: irq_written(revision_b, self.irq, addr, val),
+                irq: self.irq.write_at(revision_b, addr, val),
                 clock,
                 came: false,
             },

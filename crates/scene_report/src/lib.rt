@@ -43,7 +43,7 @@ pub fn put_verdict(out: &mut [u8; ROOM], len: usize, verdict: Verdict) -> usize 
     put_off(out, b, verdict)
 }
 
-// The first run of a sweep is headed by a word, the others stand below it.
+// A word heads the first run of a sweep; the others stand below it.
 fn put_head(out: &mut [u8; ROOM], len: usize, from: u32) -> usize {
     if from == 0 {
         return put_text(out, len, b"  clocks ");

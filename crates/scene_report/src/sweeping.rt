@@ -1,4 +1,4 @@
-// The menu, played at every clock from the end of the writes to the interrupt, and told by runs of clocks with one verdict.
+// The menu, played at every clock from the end of the writes to the interrupt, and reported by runs of clocks with one verdict.
 use crate::put_bar;
 use crate::put_run;
 use crate::put_worst;

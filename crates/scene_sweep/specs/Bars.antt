@@ -1,4 +1,4 @@
--- The bar under a sweep (docs/SCENES.md): n clocks are cut in 64 equal shares, a column for each. Assumes nothing.
+-- The bar under a sweep: n clocks are cut in 64 equal shares, a column for each (docs/SCENES.md). Assumes nothing.
 use mathlib.Core.Path.{_≡_}
 use mathlib.Core.List.{List}
 use mathlib.Core.Logic.{_⊎_}

@@ -1,4 +1,4 @@
--- How many moments of a sweep are wrong, the first of them and the worst (docs/SCENES.md). Clock j has verdict `at j`. Assumes nothing.
+-- How many moments of a sweep are wrong, the first of them and the worst. Clock j has verdict `at j` (docs/SCENES.md). Assumes nothing.
 use mathlib.Core.Path.{_≡_}
 use mathlib.Core.Bool.{Bool, true, false, cond, not}
 use Prim.Native.Nat.{ℕ, zero, suc, _+_, _^_, _≤_, _<_}

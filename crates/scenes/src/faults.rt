@@ -4,7 +4,7 @@ use text_output::put;
 use text_output::put_number;
 use text_output::put_text;
 
-// The columns, by cells' `column_of`.
+// The columns, by scene_cells' `column_of`.
 pub const SCENE: usize = 0;
 
 pub const PRG: usize = 1;

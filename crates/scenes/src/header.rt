@@ -38,7 +38,7 @@ fn is_first(text: &[u8], header: usize, column: u8, k: usize) -> bool {
     }
 }
 
-// Tells of a header cell that is no column, or a column again. The header is at its next cell.
+// Reports a header cell that is no column, or a column again. The header is at its next cell.
 fn tell_name(
     header: Header,
     out: &mut [u8; ROOM],

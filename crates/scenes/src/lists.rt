@@ -114,7 +114,7 @@ fn take_pair(
     }
 }
 
-// A cell with too many steps is refused.
+// Refuses a cell with too many steps.
 fn put_many(out: &mut [u8; ROOM], words: Words, at: Place) -> Words {
     if MOST_STEPS < words.count {
         return words.faulty(put_room_fault(out, words.len, at));

@@ -1,5 +1,5 @@
-// Plays sheets of scenes: the files that its arguments name, or standard input. Each scene's letters and window are checked,
-// and its menu is played at every clock up to the interrupt (docs/SCENES.md).
+// Plays sheets of scenes: the files that its arguments name, or standard input. It checks each scene's letters and window,
+// and plays its menu at every clock up to the interrupt (docs/SCENES.md).
 mod checking;
 mod faults;
 mod header;

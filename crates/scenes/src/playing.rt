@@ -1,5 +1,5 @@
-// A scene on a board of its own, in buffers that hold any layout. No call is refused on a board that was created: demand3, crate
-// ledger.
+// A scene on a board of its own, in buffers that hold any layout. A board that was created refuses no call: `Demand3` in crate
+// vrc6_ledger.
 use crate::scene::MOST_STEPS;
 use crate::scene::Scene;
 use irq::VrcIrq;

@@ -1,4 +1,4 @@
-// The cells of a row read as a scene. Each fault is told, so a row's faults are all seen at once.
+// The cells of a row read as a scene. It reports each fault, so a row's faults are all seen at once.
 use crate::faults::CHR;
 use crate::faults::LETTERS;
 use crate::faults::MENU;

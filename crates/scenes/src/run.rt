@@ -204,7 +204,7 @@ fn has_writes(text: &[u8], header: usize) -> bool {
     }
 }
 
-// Whether a sheet with this header can be played; told if not.
+// Whether a sheet with this header can be played; reports why not.
 fn will_do(header: Header, text: &[u8], out: &mut [u8; ROOM]) -> bool {
     if MOST_BYTES < text.len() {
         let len = put_text(out, header.len, b"the sheet is longer than 2097152 bytes\n");

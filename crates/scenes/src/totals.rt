@@ -11,7 +11,7 @@ pub struct Totals {
     pub moments: u64,
     pub wrong: u64,
     pub bad: u32,
-    // The moments when progress was last told.
+    // The moments when progress was last reported.
     pub told: u64,
 }
 

@@ -1,4 +1,4 @@
--- The bytes that fill both buffers before a creation (FORMAT.md, "Fill"). Assumes nothing.
+-- The bytes that fill both buffers before a creation (oracle/FORMAT.md). Assumes nothing.
 use mathlib.Core.List.{List}
 use Prim.Native.Nat.{ℕ, _+_, _*_, _/_, _%_, _^_}
 use lib.Bits.{bitXor}

@@ -1,4 +1,4 @@
--- FNV-1a with 32 bits (FORMAT.md, "fnv"). Assumes nothing.
+-- FNV-1a with 32 bits (oracle/FORMAT.md). Assumes nothing.
 use mathlib.Core.List.{List, [], _∷_, foldl}
 use Prim.Native.Nat.{ℕ, _*_, _/_, _%_, _^_}
 use lib.Bits.{bitXor}

@@ -1,4 +1,4 @@
--- What a line of a script is: nothing, a call with its arguments, or wrong (FORMAT.md). Assumes nothing.
+-- What a line of a script is: nothing, a call with its arguments, or wrong (oracle/FORMAT.md). Assumes nothing.
 use mathlib.Core.Bool.{cond}
 use mathlib.Core.List.{List}
 use Prim.Native.Nat.{ℕ}

@@ -1,4 +1,4 @@
--- A call's arguments, read one after the other from a line (FORMAT.md). Assumes nothing.
+-- A call's arguments, read one after the other from a line (oracle/FORMAT.md). Assumes nothing.
 use mathlib.Core.Bool.{Bool, cond, _&&_}
 use mathlib.Core.List.{List}
 use Prim.Native.Nat.{ℕ}

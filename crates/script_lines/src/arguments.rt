@@ -1,4 +1,4 @@
-// A call's arguments, one after the other. What is wrong with one is carried on to the last.
+// A call's arguments, one after the other. What is wrong with one carries on to the last.
 use text_words::next_word;
 use text_words::number::Number;
 use text_words::number::in_base;

@@ -145,7 +145,7 @@ fn cycles(t: Tally, fixed: &[u8], changing: &mut Changing) -> Tally {
     t.row(b"enabled after acknowledge", 0, enabled(b))
 }
 
-// The interrupt is cleared, of the sound halt only, and no bank moves.
+// Reset clears the interrupt, and of the sound halt only; no bank moves.
 fn after_reset(t: Tally, b: Board) -> Tally {
     let t = t.row(b"prescaler", 0, prescaler(b));
     let t = t.row(b"enabled", 0, enabled(b));

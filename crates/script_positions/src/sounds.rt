@@ -54,7 +54,7 @@ fn pulse_enabled(board: Board) -> u64 {
     flag(pulse.enabled)
 }
 
-// With frequency 0 every clock is a step. The rate is added at every second step, and the last clears.
+// With frequency 0 every clock is a step. Every second step adds the rate, and the last clears.
 fn saw_wraps(t: Tally, fixed: &[u8], changing: &mut Changing) -> Tally {
     heading(b"Saw rate 43, frequency 0");
     let b = board_s(fixed, changing);

@@ -118,8 +118,8 @@ fn with_prg_ram(board: Board, length: u32) -> Board {
 // Another entry at $6000 and at picture address $2000.
 fn with_entry(board: Board, entry: u32) -> Board {
     let mut b = board;
-    b.prg_pages[24] = Page(entry);
-    b.chr_pages[8] = Page(entry);
+    b.prg_pages[24] = Page::of_bits(entry);
+    b.chr_pages[8] = Page::of_bits(entry);
     b
 }
 

@@ -39,7 +39,7 @@ fn refusal(answer: Answer) -> u64 {
     }
 }
 
-// The byte or the tick that an answer tells.
+// The byte or the tick that an answer returns.
 fn told(answer: Answer) -> u64 {
     match answer {
         Answer::Byte(byte, _) => byte as u64,
@@ -48,7 +48,7 @@ fn told(answer: Answer) -> u64 {
     }
 }
 
-// What a call gave: its refusal number, and whether it told nothing and left board and changing buffer. The fixed one
+// What a call gave: its refusal number, and whether it returned nothing and left board and changing buffer. The fixed one
 // is lent as `&[u8]`, so no call can change it.
 struct Outcome {
     refusal: u64,

@@ -82,7 +82,7 @@ fn put_forecast(out: &mut [u8; ROOM], len: usize, forecast: Forecast) -> usize {
     }
 }
 
-// A page view's bytes are shown by their hash.
+// A hash stands for a page view's bytes.
 pub fn put_view(out: &mut [u8; ROOM], len: usize, hash: u32) -> usize {
     let a = put(out, len, b'V');
     let b = put_word(out, a, hash);

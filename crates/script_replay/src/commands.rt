@@ -1,4 +1,4 @@
-// One line of a script is played.
+// Plays one line of a script.
 use crate::answers::letter;
 use crate::answers::put_answer;
 use crate::answers::put_refused;

@@ -1,4 +1,4 @@
-// A board is created on buffers that a seed fills.
+// Creates a board on buffers that a seed fills.
 use crate::answers::put_refused;
 use crate::session::Session;
 use memory_layout::MemoryLayout;
@@ -58,7 +58,7 @@ fn lengths_of(layout: MemoryLayout) -> Lengths {
     }
 }
 
-// Both buffers, but for the page of zeros, are filled before the board is created.
+// Fills both buffers, but for the page of zeros, before the board is created.
 fn fill_both(fixed: &mut [u8], changing: &mut [u8], seed: u32) {
     let n = fixed.len();
     if n < 1024 {

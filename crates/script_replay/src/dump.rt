@@ -19,7 +19,7 @@ use vrc6::Board;
 use vrc6_banking::banking::Banking;
 
 fn put_page(out: &mut [u8; ROOM], len: usize, page: Page) -> usize {
-    put_hex(out, len, page.0)
+    put_hex(out, len, page.bits())
 }
 
 fn put_cpu_pages(out: &mut [u8; ROOM], len: usize, pages: [Page; 64]) -> usize {

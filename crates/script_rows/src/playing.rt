@@ -99,7 +99,7 @@ pub fn cpu_entry(board: Board, addr: u16) -> u64 {
     let pages = board.prg_pages;
     let slot = (addr / 1024) as usize;
     let page = pages[slot];
-    page.0 as u64
+    page.bits() as u64
 }
 
 // The picture side's entry for an address, with bit 31.
@@ -107,7 +107,7 @@ pub fn picture_entry(board: Board, addr: u16) -> u64 {
     let pages = board.chr_pages;
     let slot = (addr / 1024 % 16) as usize;
     let page = pages[slot];
-    page.0 as u64
+    page.bits() as u64
 }
 
 pub fn nametables(board: Board) -> [u8; 4] {

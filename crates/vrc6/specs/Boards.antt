@@ -1,5 +1,4 @@
--- A board with its buffers, what creation is given, the new board and the all-zero one (01, Records and "The board's calls").
--- Assumes nothing.
+-- A board with its buffers, what creation is given, the new board and the all-zero one (01, Records; 01, The board's calls). Assumes nothing.
 use mathlib.Core.Bool.{false}
 use mathlib.Core.List.{List}
 use Prim.Native.Nat.{ℕ}
@@ -19,7 +18,7 @@ use Rattle.audio.specs.declared.Audio.{Audio}
 use Rattle.audio.specs.Sound.{audioAt}
 use Rattle.vrc6.specs.declared.board.Board.{Board}
 
--- a board, and the two buffers that it is lent
+-- a board, and the two buffers that it is lent (01, Records 2)
 pub record State : Type 0 where
   pub board : Board
   pub fixed : List ℕ
@@ -29,7 +28,7 @@ pub record State : Type 0 where
 abbrev pub heldBy : Board → (fixed changing : List ℕ) → State
 heldBy b f c = record { board = b; fixed = f; changing = c }
 
--- what creation is given (01, "The board's calls")
+-- what creation is given (01, The board's calls 1)
 pub record Creation : Type 0 where
   pub layout : MemoryLayout
   pub mirroring : Mirroring
@@ -37,7 +36,7 @@ pub record Creation : Type 0 where
   pub fixed : List ℕ
   pub changing : List ℕ
 
--- a board whose entries all follow from its layout and its banking values (01, Banks and decode)
+-- a board whose entries all follow from its layout and its banking values (01, Banks and decode 2)
 abbrev pub paged : MemoryLayout → Banking → VrcIrq → Audio → Board
 paged l b q a =
     record {
@@ -49,11 +48,11 @@ paged l b q a =
       audio = a;
     }
 
--- a new board: all eleven registers 0, interrupt all 0, sound as `Audio::new` (01, Banks and decode)
+-- a new board: all eleven registers 0, interrupt all 0, sound as `Audio::new` (01, Banks and decode 2)
 abbrev pub newBoard : MemoryLayout → Mirroring → Revision → Board
 newBoard l m r = paged l (firstBanking m r) irqZero (audioAt 1)
 
--- the all-zero board that a refused create returns (01, "The board's calls")
+-- the all-zero board that a refused create returns (01, The board's calls 3; 01, The board's calls 4)
 abbrev pub zeroBoard : Board
 zeroBoard =
     record {
@@ -82,6 +81,6 @@ abbrev pub table : Side → Board → List Page
 table cpu b = b .«prg_pages»
 table picture b = b .«chr_pages»
 
--- the one entry that serves an address
+-- the one entry that serves an address (01, Paging 2)
 abbrev pub entryOf : Side → Board → (address : ℕ) → Page
 entryOf s b address = entryFor s (table s b) address

@@ -1,4 +1,4 @@
-// The calls that check interrupt and sound values only: clock, reset, level, forecast. Crate engine does them without the
+// The calls that check interrupt and sound values only: clock, reset, level, forecast. Crate vrc6_engine does them without the
 // board around both.
 use crate::board::Board;
 use crate::board::Clocked;

@@ -1,24 +1,56 @@
 // The calls that change nothing: CPU read, picture read, page view.
 use crate::board::Board;
 use crate::board::ByteRead;
+use memory_access::Peeked;
 use memory_access::access_refusal;
 use memory_access::peek;
 use memory_access::view;
+use memory_layout::MemoryLayout;
 use memory_layout::Page;
-use memory_tables::chr_table::chr_lookup;
-use memory_tables::prg_table::prg_lookup;
+use memory_tables::chr_table::chr_entry;
+use memory_tables::prg_table::prg_entry;
 ghost use mathlib.Core.Path.{_≡_};
+ghost use Rattle.memory_access.specs.Access.{peeked};
 ghost use Rattle.memory_tables.specs.Paging.{cpu, picture};
 ghost use Rattle.vrc6.specs.Boards.{entryOf, heldBy};
 ghost use Rattle.vrc6.specs.Calls.{byteRead, pageView, pageViewRefusal};
 
+// What a CPU read gives through an entry, by the parts of a board that it needs. Here an unmapped entry is told apart: it
+// reads as zero.
+pub fn cpu_peek(
+    layout: MemoryLayout,
+    entry: Page,
+    fixed: &[u8],
+    changing: &[u8],
+    addr: u16,
+) -> Peeked
+    ensures { λ r. ⌜ r ≡ peeked layout entry (now (fixed .entry)) (now (changing .entry)) addr ⌝ }
+{
+    let found = entry.lookup();
+    peek(layout, found.page(), fixed, changing, addr)
+}
+
+// The same for a picture read.
+pub fn picture_peek(
+    layout: MemoryLayout,
+    entry: Page,
+    fixed: &[u8],
+    changing: &[u8],
+    addr: u16,
+) -> Peeked
+    ensures { λ r. ⌜ r ≡ peeked layout entry (now (fixed .entry)) (now (changing .entry)) addr ⌝ }
+{
+    let shown = entry.lookup();
+    peek(layout, shown.page(), fixed, changing, addr)
+}
+
 impl Board {
-    // The entry that serves a CPU address; an unmapped one shows the page of zeros.
+    // The entry that serves a CPU address.
     pub(crate) fn cpu_page(self, addr: u16) -> Page
         ensures { λ r. ⌜ r ≡ entryOf cpu self addr ⌝ }
     {
         let pages = self.prg_pages;
-        prg_lookup(pages, addr).page()
+        prg_entry(pages, addr)
     }
 
     // The entry that serves a picture address.
@@ -26,14 +58,14 @@ impl Board {
         ensures { λ r. ⌜ r ≡ entryOf picture self addr ⌝ }
     {
         let pages = self.chr_pages;
-        chr_lookup(pages, addr).page()
+        chr_entry(pages, addr)
     }
 
     pub fn cpu_read(self, fixed: &[u8], changing: &[u8], addr: u16) -> ByteRead
         ensures { λ r. ⌜ r ≡ byteRead cpu (heldBy self (now (fixed .entry)) (now (changing .entry))) addr ⌝ }
     {
         let page = self.cpu_page(addr);
-        let got = peek(self.layout, page, fixed, changing, addr);
+        let got = cpu_peek(self.layout, page, fixed, changing, addr);
         ByteRead {
             board: self,
             byte: got.byte,
@@ -45,7 +77,7 @@ impl Board {
         ensures { λ r. ⌜ r ≡ byteRead picture (heldBy self (now (fixed .entry)) (now (changing .entry))) addr ⌝ }
     {
         let page = self.picture_page(addr);
-        let shown = peek(self.layout, page, fixed, changing, addr);
+        let shown = picture_peek(self.layout, page, fixed, changing, addr);
         ByteRead {
             board: self,
             byte: shown.byte,

@@ -13,17 +13,19 @@ use registers::Register;
 use registers::decode;
 use vrc6_banking::banking::Banking;
 use vrc6_engine::engine_in_range;
-use vrc6_engine::writes::audio_written;
-use vrc6_engine::writes::irq_written;
 use vrc6_tables::chr_pages;
 use vrc6_tables::prg_pages;
 ghost use mathlib.Core.Path.{_≡_};
+ghost use mathlib.Core.Bool.{true};
 ghost use lib.ListN.{length};
 ghost use Rattle.memory_access.specs.Access.{accessRefusal};
+ghost use Rattle.memory_layout.specs.Layout.{withinLimits};
 ghost use Rattle.registers.specs.Decode.{decode};
+ghost use Rattle.registers.specs.declared.Register.the-variants.{OfBank};
 ghost use Rattle.vrc6.specs.Boards.{heldBy};
 ghost use Rattle.vrc6.specs.Checks.{valuesInRange};
-ghost use Rattle.vrc6.specs.Calls.{bankTaken, banksTaken, byteLeft, cpuWrite, cpuWriteLeft, lineTaken, partOf, pictureWrite, pictureWriteLeft, soundTaken, takenAt};
+ghost use Rattle.vrc6.specs.Calls.{cpuWrite, cpuWriteLeft, pictureWrite, pictureWriteLeft, registerWritten, writtenAt};
+ghost use Rattle.vrc6.specs.Parts.{Reaches, byteLeft, partOf};
 
 // Whether what a CPU write checks beside its entry is in range: from $8000 up all banking, interrupt and sound values.
 fn values_in_range(banking: Banking, irq: VrcIrq, audio: Audio, addr: u16) -> bool
@@ -59,7 +61,8 @@ pub fn write_byte(
     refusal
 }
 
-// The part of the board that an address reaches, which below $8000 is none: 0 for none, 1 for the banks, 2 for the sound, 3 for the interrupt.
+// The part of the board that an address reaches: 1 for the banks, 2 for the sound, 3 for the interrupt, and 0 for none, as
+// below $8000.
 pub fn reached(revision_b: bool, addr: u16) -> u8
     ensures { λ r. ⌜ r ≡ partOf (decode «revision_b» addr) ⌝ }
 {
@@ -76,13 +79,13 @@ pub fn reached(revision_b: bool, addr: u16) -> u8
 
 impl Board {
     // A bank register takes a byte, and every entry is rebuilt from the banking values. A layout above the limits has no
-    // entries: the board stays.
+    // entries.
     fn write_bank(self, register: BankRegister, val: u8) -> Board
-        ensures { λ r. ⌜ r ≡ bankTaken register val self ⌝ }
+        ensures { λ r. ⌜ (withinLimits (self .layout) ≡ true → r ≡ registerWritten (OfBank register) val self) ⌝ }
     {
         let layout = self.layout;
         if layout.within_limits() {
-            let banking = self.banking.write_bank(register, val);
+            let banking = self.banking.write_register(register, val);
             let prg = prg_pages(layout, banking);
             let chr = chr_pages(layout, banking);
             let mut board = self;
@@ -96,7 +99,7 @@ impl Board {
 
     // A bank register takes the byte of a CPU write that reaches one.
     pub fn write_banks(self, addr: u16, val: u8) -> Board
-        ensures { λ r. ⌜ r ≡ banksTaken (decode (self .banking .«revision_b») addr) val self ⌝ }
+        ensures { λ r. ⌜ (Reaches 1 self addr → r ≡ writtenAt self addr val) ⌝ }
     {
         let banking = self.banking;
         match decode(banking.revision_b, addr) {
@@ -109,10 +112,10 @@ impl Board {
 
     // A register of the sound takes the byte of a CPU write that reaches one.
     pub fn write_sound(self, addr: u16, val: u8) -> Board
-        ensures { λ r. ⌜ r ≡ soundTaken (decode (self .banking .«revision_b») addr) val self ⌝ }
+        ensures { λ r. ⌜ (Reaches 2 self addr → r ≡ writtenAt self addr val) ⌝ }
     {
         let banking = self.banking;
-        let audio = audio_written(banking.revision_b, self.audio, addr, val);
+        let audio = self.audio.write_at(banking.revision_b, addr, val);
         let mut board = self;
         board.audio = audio;
         board
@@ -120,10 +123,10 @@ impl Board {
 
     // A register of the interrupt takes the byte of a CPU write that reaches one.
     pub fn write_line(self, addr: u16, val: u8) -> Board
-        ensures { λ r. ⌜ r ≡ lineTaken (decode (self .banking .«revision_b») addr) val self ⌝ }
+        ensures { λ r. ⌜ (Reaches 3 self addr → r ≡ writtenAt self addr val) ⌝ }
     {
         let banking = self.banking;
-        let irq = irq_written(banking.revision_b, self.irq, addr, val);
+        let irq = self.irq.write_at(banking.revision_b, addr, val);
         let mut board = self;
         board.irq = irq;
         board
@@ -131,7 +134,7 @@ impl Board {
 
     // The register that a CPU write reaches takes its byte.
     fn write_register(self, addr: u16, val: u8) -> Board
-        ensures { λ r. ⌜ r ≡ takenAt self addr val ⌝ }
+        ensures { λ r. ⌜ (withinLimits (self .layout) ≡ true → r ≡ writtenAt self addr val) ⌝ }
     {
         let banking = self.banking;
         let part = reached(banking.revision_b, addr);

@@ -1,4 +1,4 @@
--- The banking values at creation, after a bank write, and their ranges (01, Records and Banks and decode; VRC6). Assumes nothing.
+-- The banking values at creation, after a bank write, and their ranges (01, Records; 01, Banks and decode; VRC6). Assumes nothing.
 use mathlib.Core.Bool.{Bool, true, false, _&&_}
 use mathlib.Core.List.{List}
 use Prim.Native.Nat.{ℕ, _%_}
@@ -13,7 +13,7 @@ use Rattle.vrc6_banking.specs.declared.banking.Revision.{Revision}
 use Rattle.vrc6_banking.specs.declared.banking.Revision.the-variants.{A, B}
 use Rattle.vrc6_slots.specs.Nametables.{mirroringNumbers, nametableNumbers, nametableMirroring}
 
--- a mirroring's number, in the Rust's order
+-- a mirroring's number (ppu.rs, Mirroring)
 abbrev pub mirroringNumber : Mirroring → ℕ
 mirroringNumber Vertical = 0
 mirroringNumber Horizontal = 1
@@ -26,7 +26,7 @@ abbrev pub isB : Revision → Bool
 isB A = false
 isB B = true
 
--- at creation: all registers 0, the mirroring given and its numbers (01, Banks and decode)
+-- at creation: all registers 0, the mirroring given and its numbers (01, Banks and decode 2; 01, Banks and decode 6)
 abbrev pub firstBanking : Mirroring → Revision → Banking
 firstBanking m r =
     record {
@@ -38,7 +38,7 @@ firstBanking m r =
       «revision_b» = isB r;
     }
 
--- every value 0: Vertical, revision A, and unlike Vertical's the nametable numbers 0 0 0 0 (01, a refused create)
+-- every value 0: Vertical, revision A, and unlike Vertical's the nametable numbers 0 0 0 0 (01, The board's calls 4)
 abbrev pub zeroBanking : Banking
 zeroBanking =
     record {
@@ -50,7 +50,7 @@ zeroBanking =
       «revision_b» = false;
     }
 
--- mode or a CHR register was written: mirroring and nametable numbers follow (01, Banks and decode)
+-- mode or a CHR register was written: mirroring and nametable numbers follow (01, Banks and decode 6)
 abbrev pub renamed : Banking → (mode : ℕ) → (chr : List ℕ) → Banking
 renamed b m c =
     record {
@@ -74,13 +74,13 @@ repaged b i n =
       «revision_b» = b .«revision_b»;
     }
 
--- a bank register takes a byte: $8000..3 AND $0F, $C000..3 AND $1F, $B003, $D000..3 and $E000..3 (VRC6; 01, Banks and decode)
+-- a bank register takes a byte: $8000..3 AND $0F, $C000..3 AND $1F, $B003, $D000..3 and $E000..3 (01, Banks and decode 1; VRC6)
 abbrev pub bankWritten : BankRegister → (v : ℕ) → Banking → Banking
 bankWritten Prg16 v b = repaged b 0 (v % 16)
 bankWritten Prg8 v b = repaged b 1 (v % 32)
 bankWritten Mode v b = renamed b v (b .chr)
 bankWritten (Chr i) v b = renamed b (b .«banking_mode») (set (b .chr) (i % 8) v)
 
--- PRG numbers 0..15 and 0..31 (01, Records), and a mirroring's number
+-- PRG numbers 0..15 and 0..31, and a mirroring's number (01, Records 4; 01, The board's calls 4)
 abbrev pub bankingInRange : Banking → Bool
 bankingInRange b = leb (getD (b .«prg_banks») 0 0) 15 && leb (getD (b .«prg_banks») 1 0) 31 && leb (b .mirroring) 4

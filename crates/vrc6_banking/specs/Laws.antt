@@ -9,7 +9,7 @@ use Rattle.vrc6_slots.specs.declared.Mirroring.{Mirroring}
 use Rattle.vrc6_banking.specs.declared.banking.Revision.{Revision}
 use Rattle.vrc6_banking.specs.Banking.{firstBanking, bankWritten, bankingInRange}
 
--- banking values as the machine holds them: in range, two PRG numbers, eight CHR registers, four nametable numbers (01, Records)
+-- banking values as the machine holds them: in range, two PRG numbers, eight CHR registers, four nametable numbers (01, Records 4)
 pub record WellFormed (b : Banking) : Type 0 where
   pub in-range : bankingInRange b ≡ true
   pub prgs : length (b .«prg_banks») ≡ 2

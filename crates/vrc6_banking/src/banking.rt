@@ -109,7 +109,7 @@ impl Banking {
     }
 
     // A PRG register leaves the nametables as they are, even those of creation.
-    pub fn write_bank(mut self, register: BankRegister, val: u8) -> Self
+    pub fn write_register(mut self, register: BankRegister, val: u8) -> Self
         ensures { λ r. ⌜ r ≡ bankWritten register val self ⌝ }
     {
         match register {

@@ -1,5 +1,5 @@
 -- A call as a value, and lists of calls: each call's whole answer, and the board and buffers that it leaves to the next
--- (01, "Demand 3's lists and their ledger"). Assumes nothing.
+-- (01, Demand 3's lists and their ledger). Assumes nothing.
 use mathlib.Core.List.{List, [], _∷_}
 use mathlib.Core.Option.{Option, none, some}
 use Prim.Native.Nat.{ℕ}
@@ -24,11 +24,12 @@ use Rattle.vrc6.specs.Boards.{State, heldBy}
 use Rattle.vrc6.specs.Calls.{byteRead, cpuWrite, cpuWriteLeft, pictureWrite, pictureWriteLeft, clock, reset, level, forecast, pageView, pageViewRefusal}
 
 -- ---- kinds of calls
--- what asks interrupt and sound alone
+-- what asks interrupt and sound alone (01, The board's calls 4)
 pub data Ask : Type 0 where
   clocking resetting leveling forecasting : Ask
 
--- what a call is, in either form, by value or lent: a read or a write of one side, a view, or one that asks interrupt and sound alone
+-- what a call is, in either form, by value or lent: a read or a write of one side, a view, or one that asks interrupt and
+-- sound alone (01, The board's calls 1)
 pub data Shape : Type 0 where
   reads : Side → (address : ℕ) → Shape
   writes : Side → (address byte : ℕ) → Shape
@@ -36,6 +37,7 @@ pub data Shape : Type 0 where
   asks : Ask → Shape
 
 -- the kind of each call: clock and CPU write alike in both forms, and the resets
+-- (01, Demand 3's lists and their ledger 1; 01, Rust forms to recast 1)
 abbrev pub shape : Call → Shape
 shape (CpuRead a) = reads cpu a
 shape (CpuWrite a v) = writes cpu a v
@@ -51,7 +53,7 @@ shape (PageView a) = views a
 shape ReadForecast = asks forecasting
 
 -- ---- what a call gives
--- a call's whole answer, as its contract has it; page view's bytes with the number of the call beside it
+-- a call's whole answer, as its contract has it; page view's bytes with the number of the call beside it (01, The board's calls 2)
 pub data Given : Type 0 where
   ofRead : ByteRead → Given
   ofWrite : Written → Given
@@ -60,14 +62,14 @@ pub data Given : Type 0 where
   ofForecast : Forecasted → Given
   ofView : (bytes : List ℕ) (refusal : ℕ) → Given
 
--- of interrupt and sound
+-- what a call gives that asks interrupt and sound alone
 abbrev pub answerTo : Board → Ask → Given
 answerTo b clocking = ofClock (clock b)
 answerTo b resetting = ofWrite (reset b)
 answerTo b leveling = ofLevel (level b)
 answerTo b forecasting = ofForecast (forecast b)
 
--- of each kind
+-- what a call of each kind gives
 abbrev pub givenBy : State → Shape → Given
 givenBy x (reads s a) = ofRead (byteRead s x a)
 givenBy x (writes cpu a v) = ofWrite (cpuWrite x a v)
@@ -75,7 +77,7 @@ givenBy x (writes picture a v) = ofWrite (pictureWrite x a v)
 givenBy x (views a) = ofView (pageView x a) (pageViewRefusal x a)
 givenBy x (asks q) = answerTo (x .board) q
 
--- the answer that the call's contract names
+-- what a call gives: the answer that its contract names
 abbrev pub given : State → Call → Given
 given x k = givenBy x (shape k)
 
@@ -87,18 +89,18 @@ changingBy x (writes picture a v) = pictureWriteLeft x a v .changing
 changingBy x (views a) = x .changing
 changingBy x (asks q) = x .changing
 
--- after a call
+-- the changing buffer after a call
 abbrev pub changingAfter : State → Call → List ℕ
 changingAfter x k = changingBy x (shape k)
 
 -- ---- what an answer says
--- the refusal number of a forecast
+-- the refusal number of a forecast (01, The form to use in each place 12)
 abbrev pub forecastRefusal : Forecast → ℕ
 forecastRefusal None = 0
 forecastRefusal (In n) = 0
 forecastRefusal (Refused n) = n
 
--- the forecast that is told: None is one, a refusal is none
+-- the forecast that an answer returns: None is one, a refusal is none (01, The form to use in each place 12)
 abbrev pub forecastPart : Forecast → List (Option ℕ)
 forecastPart None = none ∷ []
 forecastPart (In n) = some n ∷ []
@@ -122,7 +124,7 @@ pub record Parts : Type 0 where
   -- what it says beside the board and the view's bytes, as `step` answers it
   pub answer : Answer
 
--- of every answer
+-- the parts of every answer
 abbrev pub parts : Given → Parts
 parts (ofRead r) =
     record {
@@ -186,15 +188,15 @@ parts (ofView bytes n) =
 abbrev pub boardIn : Board → Given → Board
 boardIn b a = parts a .board b
 
--- its refusal number
+-- an answer's refusal number
 abbrev pub refusalIn : Given → ℕ
 refusalIn a = parts a .refusal
 
--- how many ticks it reports
+-- how many ticks an answer reports
 abbrev pub ticksIn : Given → ℕ
 ticksIn a = parts a .ticks
 
--- `step`: the board that the call hands back, and what the call says
+-- what the function `step` returns: the board that the call hands back, and what the call says
 abbrev pub step : State → Call → Stepped
 step x k = record { board = boardIn (x .board) (given x k); answer = parts (given x k) .answer }
 
@@ -203,7 +205,7 @@ step x k = record { board = boardIn (x .board) (given x k); answer = parts (give
 abbrev pub nextBy : State → Shape → State
 nextBy x s = heldBy (boardIn (x .board) (givenBy x s)) (x .fixed) (changingBy x s)
 
--- each call gets what the last one left
+-- board and buffers after a call; each call gets what the last one left (01, Demand 3's lists and their ledger 1)
 abbrev pub next : State → Call → State
 next x k = nextBy x (shape k)
 
@@ -212,7 +214,7 @@ abbrev pub after : State → List Call → State
 after x [] = x
 after x (k ∷ ks) = after (next x k) ks
 
--- the answers, in order
+-- what the calls of a list give, in order
 abbrev pub answers : State → List Call → List Given
 answers x [] = []
 answers x (k ∷ ks) = given x k ∷ answers (next x k) ks

@@ -1,4 +1,4 @@
--- An answer as `step` tells it: the board, and what the call says beside it. Assumes nothing.
+-- What `step` returns of an answer: the board, and what the call says beside it. Assumes nothing.
 use Rattle.vrc6.specs.declared.board.ByteRead.{ByteRead}
 use Rattle.vrc6.specs.declared.board.Written.{Written}
 use Rattle.vrc6.specs.declared.board.Clocked.{Clocked}
@@ -7,22 +7,22 @@ use Rattle.vrc6.specs.declared.board.Forecasted.{Forecasted}
 use Rattle.vrc6_calls.specs.declared.Answer.the-variants.{Byte, Done, Tick, OfLevel, OfForecast}
 use Rattle.vrc6_calls.specs.declared.Stepped.{Stepped}
 
--- of a read
+-- what it returns of a read
 abbrev pub ofByteRead : ByteRead → Stepped
 ofByteRead r = record { board = r .board; answer = Byte (r .byte) (r .refusal) }
 
--- of a write or a reset
+-- what it returns of a write or a reset
 abbrev pub ofWritten : Written → Stepped
 ofWritten r = record { board = r .board; answer = Done (r .refusal) }
 
--- of a clock
+-- what it returns of a clock
 abbrev pub ofClocked : Clocked → Stepped
 ofClocked r = record { board = r .board; answer = Tick (r .ticked) (r .refusal) }
 
--- of a level
+-- what it returns of a level
 abbrev pub ofLeveled : Leveled → Stepped
 ofLeveled r = record { board = r .board; answer = OfLevel (r .level) }
 
--- of a forecast
+-- what it returns of a forecast
 abbrev pub ofForecasted : Forecasted → Stepped
 ofForecasted r = record { board = r .board; answer = OfForecast (r .forecast) }

@@ -14,7 +14,7 @@ use Rattle.audio.specs.Sound.{summed}
 use Rattle.audio_channels.specs.Ranges.{pulseInRange, sawInRange, channelsInRange}
 use Rattle.audio_channels.proofs.Ranged.{three, pulse-in, saw-in}
 use Rattle.audio.proofs.Steady.{Falls, audio-falls, sum-in-range}
-use Rattle.vrc6_engine.specs.Engine.{engineClocked, onlyTimers}
+use Rattle.vrc6_engine.specs.Engine.{engineClock, onlyTimers}
 use Rattle.vrc6_engine.proofs.Engines.{engine-steady}
 
 or-left : (a b : Bool) → (a || b) ≡ false → a ≡ false
@@ -36,7 +36,7 @@ module _ (q : VrcIrq) (a : Audio) (t u v : ℕ) (same irq-in channels-in : Bool)
       → sum ≡ summed (a .pulse1) (a .pulse2) (a .saw) → (same ≡ true → a .out ≡ sum)
       → irq-in ≡ irqHeld q → channels-in ≡ channelsInRange (a .pulse1) (a .pulse2) (a .saw)
       → (same && irq-in && channels-in) ≡ true → a .saw .accum ≤ 255
-      → engineClocked q a ≡ onlyTimers q a t u v
+      → engineClock q a ≡ onlyTimers q a t u v
   timed f g h runs s o i c tests l =
       let out : a .out ≡ summed (a .pulse1) (a .pulse2) (a .saw) = o (and-left same irq-in (and-left (same && irq-in) channels-in tests)) ∙ s in
       let ranged : channelsInRange (a .pulse1) (a .pulse2) (a .saw) ≡ true = sym c ∙ and-right (same && irq-in) channels-in tests in

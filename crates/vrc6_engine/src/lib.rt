@@ -1,13 +1,11 @@
-// Interrupt and sound without the board around them: what clock, reset, level and forecast do with both, and a byte that
-// a register of either takes.
+// Interrupt and sound without the board around them: what clock, reset, level and forecast do with both.
 use audio::Audio;
 use irq::VrcIrq;
 ghost use mathlib.Core.Path.{_≡_};
-ghost use Rattle.vrc6_engine.specs.Engine.{engineClocked, engineOk};
+ghost use Rattle.vrc6_engine.specs.Engine.{engineClock, engineOk};
 
 pub mod answers;
 pub mod steady;
-pub mod writes;
 
 // Interrupt and sound after a clock, whether it ticked, and the refusal's number.
 pub struct EngineClocked {
@@ -26,7 +24,7 @@ pub fn engine_in_range(irq: VrcIrq, audio: Audio) -> bool
 
 // Interrupt, then sound.
 pub fn clock_engine(irq: VrcIrq, audio: Audio) -> EngineClocked
-    ensures { λ r. ⌜ r ≡ engineClocked irq audio ⌝ }
+    ensures { λ r. ⌜ r ≡ engineClock irq audio ⌝ }
 {
     if engine_in_range(irq, audio) {
         let next = irq.clock();

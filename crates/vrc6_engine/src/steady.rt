@@ -4,7 +4,7 @@ use irq::VrcIrq;
 ghost use mathlib.Core.Path.{_≡_};
 ghost use mathlib.Core.Bool.{true, false, cond};
 ghost use Prim.Native.Nat.{_-_, _≤_};
-ghost use Rattle.vrc6_engine.specs.Engine.{engineClocked, onlyTimers};
+ghost use Rattle.vrc6_engine.specs.Engine.{engineClock, onlyTimers};
 
 // Whether the next clock is such a clock, and where it is, the timers after it.
 pub struct Steady {
@@ -38,7 +38,7 @@ fn counted(timer: u16, enabled: bool) -> u16
 
 // Timers come first, so that a clock in which one runs out is known early.
 pub fn steady_timers(irq: VrcIrq, audio: Audio) -> Steady
-    ensures { λ r. ⌜ (r .yes ≡ true → engineClocked irq audio ≡ onlyTimers irq audio (r .timer1) (r .timer2) (r .timer3)) ⌝ }
+    ensures { λ r. ⌜ (r .yes ≡ true → engineClock irq audio ≡ onlyTimers irq audio (r .timer1) (r .timer2) (r .timer3)) ⌝ }
 {
     let pulse1 = audio.pulse1;
     let pulse2 = audio.pulse2;

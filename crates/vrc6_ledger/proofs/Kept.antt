@@ -27,10 +27,10 @@ use Rattle.vrc6_slots.specs.Nametables.{nametableMirroring}
 use Rattle.vrc6_tables.proofs.Entries.{entries-law}
 use Rattle.irq.specs.Timing.{lineStep, lineLength}
 use Rattle.irq.proofs.Board.{pace}
-use Rattle.audio.specs.declared.AudioRegister.{AudioRegister}
-use Rattle.audio.specs.declared.AudioRegister.the-variants.{Pulse1, Pulse2, OfSaw, Halt}
+use Rattle.registers.specs.declared.AudioRegister.{AudioRegister}
+use Rattle.registers.specs.declared.AudioRegister.the-variants.{Pulse1, Pulse2, OfSaw, Halt}
 use Rattle.audio.specs.declared.Audio.{Audio}
-use Rattle.audio.specs.Sound.{audioAt, audioWritten, audioClocked}
+use Rattle.audio.specs.Sound.{audioAt, audioWritten, audioWrittenTo, audioClocked}
 use Rattle.audio.specs.Laws.{AudioHeld, levels}
 use Rattle.audio.proofs.Kept.{kept-law, sum-law}
 use Rattle.vrc6_calls.specs.Lists.{Shape, reads, writes, views, asks}
@@ -40,7 +40,7 @@ use Rattle.vrc6_ledger.specs.Ledger.{Ledger, Origin, Registers, Timing, 
 use Rattle.vrc6_ledger.specs.Demand3.{WholeSum}
 use Rattle.vrc6_ledger.specs.Refused.{memoryChecks, createChecks}
 use Rattle.vrc6_ledger.proofs.Ticks.{same-fall}
-use Rattle.vrc6_ledger.proofs.Shown.{Count, shown, refusalBy, audioAfter, audioNext, or-true}
+use Rattle.vrc6_ledger.proofs.Shown.{Count, shown, refusalBy, audioNext, or-true}
 
 -- ---- what an accepted creation says
 pub record Accepted (c : Creation) : Type 0 where
@@ -135,7 +135,7 @@ clocked-timing t h =
     either (λ n. n ≤ 341) (t .enabled && not (t .cycle))
     (rw (same-fall (t .prescaler)) (one-clock lineStep lineLength pace (t .prescaler) .within h)) h
 
-kept-audio : (k : Register) (v : ℕ) (x : Audio) → Sounds x → Sounds (audioAfter k v x)
+kept-audio : (k : Register) (v : ℕ) (x : Audio) → Sounds x → Sounds (audioWrittenTo k v x)
 kept-audio Nothing v x h = h
 kept-audio (OfBank b) v x h = h
 kept-audio (OfAudio s) v x h = written-sounds s v x h

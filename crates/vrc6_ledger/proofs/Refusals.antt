@@ -14,11 +14,13 @@ use Rattle.audio.specs.Levels.{levelOf, levelIn}
 use Rattle.irq.specs.Timing.{clockAnswer, forecastAnswer}
 use Rattle.vrc6.specs.declared.board.Board.{Board}
 use Rattle.vrc6.specs.declared.board.ByteRead.{ByteRead}
+use Rattle.vrc6.specs.declared.board.Clocked.{Clocked}
 use Rattle.vrc6.specs.declared.board.Written.{Written}
 use Rattle.vrc6_engine.specs.declared.answers.Forecast.the-variants.{Refused}
 use Rattle.vrc6.specs.Boards.{State, heldBy, newBoard, zeroBoard}
 use Rattle.vrc6.specs.Checks.{createRefusal, memoryRefusal, engineRefusal, cpuWriteRefusal}
 use Rattle.vrc6_engine.specs.Engine.{forecastOf}
+use Rattle.vrc6.proofs.Engines.{clock-law, reset-law}
 use Rattle.vrc6.specs.Calls.{byteRead, cpuWrite, pictureWrite, reset}
 use Rattle.vrc6_calls.specs.Lists.{Ask, clocking, resetting, leveling, forecasting, Shape, reads, writes, views, asks, shape, ofRead, ofWrite, given, givenBy, forecastPart, refusalIn, nextBy}
 use Rattle.vrc6_ledger.specs.Refused.{GivenBack, RefusedLaw, RefusedCreateLaw, checks, checksBy, createChecks, OrderLaw}
@@ -47,7 +49,15 @@ module _ (x : State) where
   of-clock : (engineRefusal (x .board) ≡ 0 → ⊥) → GivenBack x (givenBy x (asks clocking)) (nextBy x (asks clocking))
   of-clock h =
       let n = engineRefusal (x .board) in
-      record { state = board-back n _ h; byte = refl; view = refl; tick = ap flag (back n (clockAnswer (x .board .irq) .ticked) false h); level = refl; forecast = refl }
+      let law = clock-law (x .board) in
+      record {
+        state = ap (λ (r : Clocked). heldBy (r .board) (x .fixed) (x .changing)) law ∙ board-back n _ h;
+        byte = refl;
+        view = refl;
+        tick = ap (λ (r : Clocked). flag (r .ticked)) law ∙ ap flag (back n (clockAnswer (x .board .irq) .ticked) false h);
+        level = refl;
+        forecast = refl;
+      }
 
   of-level : (engineRefusal (x .board) ≡ 0 → ⊥) → GivenBack x (givenBy x (asks leveling)) x
   of-level h =
@@ -67,7 +77,9 @@ module _ (x : State) where
 
   of-ask : (q : Ask) → (engineRefusal (x .board) ≡ 0 → ⊥) → GivenBack x (givenBy x (asks q)) (nextBy x (asks q))
   of-ask clocking h = of-clock h
-  of-ask resetting h = of-write (reset (x .board)) _ (board-back (engineRefusal (x .board)) _ h)
+  of-ask resetting h =
+      of-write (reset (x .board)) _
+      (ap (λ (r : Written). heldBy (r .board) (x .fixed) (x .changing)) (reset-law (x .board)) ∙ board-back (engineRefusal (x .board)) _ h)
   of-ask leveling h = of-level h
   of-ask forecasting h = of-forecast h
 

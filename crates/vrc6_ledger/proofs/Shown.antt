@@ -25,9 +25,10 @@ use Rattle.vrc6_banking.specs.Banking.{bankWritten, isB}
 use Rattle.irq.specs.declared.VrcIrq.{VrcIrq}
 use Rattle.irq.specs.Interrupt.{irqZero}
 use Rattle.irq.specs.Timing.{clockAnswer, forecastAnswer}
+use Rattle.irq.specs.Writes.{irqWrittenTo}
 use Rattle.audio.specs.declared.Audio.{Audio}
 use Rattle.audio.specs.declared.Level.the-variants.{Refused as NoLevel}
-use Rattle.audio.specs.Sound.{audioWritten, audioClocked, audioReset, anyEnabled}
+use Rattle.audio.specs.Sound.{audioWrittenTo, audioClocked, audioReset, anyEnabled}
 use Rattle.audio.specs.Levels.{levelOf, levelName, levelRefusal, outputOf}
 use Rattle.vrc6.specs.declared.board.Board.{Board}
 use Rattle.vrc6_engine.specs.declared.answers.Forecast.the-variants.{Refused}
@@ -35,7 +36,9 @@ use Rattle.vrc6_calls.specs.declared.Call.{Call}
 use Rattle.vrc6.specs.Boards.{State, heldBy, Creation, paged, withEngine}
 use Rattle.vrc6.specs.Checks.{engineRefusal, memoryRefusal, cpuWriteRefusal}
 use Rattle.vrc6_engine.specs.Engine.{forecastOf}
-use Rattle.vrc6_engine.specs.Writes.{irqWritten}
+use Rattle.vrc6.specs.declared.board.Clocked.{Clocked}
+use Rattle.vrc6.specs.declared.board.Written.{Written}
+use Rattle.vrc6.proofs.Engines.{clock-law, reset-law}
 use Rattle.vrc6.specs.Calls.{registerWritten, cpuWritten, pictureWritten, clocked, wasReset}
 use Rattle.vrc6_calls.specs.Lists.{Ask, clocking, resetting, leveling, forecasting, Shape, reads, writes, views, asks, shape, answerTo, givenBy, refusalIn, ticksIn, forecastRefusal, nextBy, next}
 use Rattle.vrc6_ledger.specs.Ledger.{Ledger, Origin, Registers, Timing, Event, cpuWrites, pictureWrites, clocks, resets, looks, asked, eventBy, event, noted, byteOf, has, anyHas, bankingBy, taken, registersAfter, timingAfter, timingClocked, copied}
@@ -73,20 +76,8 @@ abbrev pub shown : Creation → Ledger → Count → Audio → State
 shown c l r a = heldBy (boardOf c (l .origin) (l .registers) (l .timing) r a) (c .fixed) (l .copy)
 
 -- ---- interrupt and sound after a call
-abbrev irqAt : Register → ℕ → VrcIrq → VrcIrq
-irqAt Nothing v q = q
-irqAt (OfBank b) v q = q
-irqAt (OfAudio s) v q = q
-irqAt (OfIrq i) v q = irqWritten i v q
-
-abbrev pub audioAfter : Register → ℕ → Audio → Audio
-audioAfter Nothing v a = a
-audioAfter (OfBank b) v a = a
-audioAfter (OfAudio s) v a = audioWritten s v a
-audioAfter (OfIrq i) v a = a
-
 abbrev irqNext : Origin → VrcIrq → Event → VrcIrq
-irqNext o q (cpuWrites a v) = irqAt (decode (isB (o .revision)) a) v q
+irqNext o q (cpuWrites a v) = irqWrittenTo (decode (isB (o .revision)) a) v q
 irqNext o q (pictureWrites a v) = q
 irqNext o q (clocks n) = times n (λ p. clockAnswer p .irq) q
 irqNext o q resets = irqZero
@@ -96,7 +87,7 @@ abbrev pub countNext : Ledger → Count → Event → Count
 countNext l r e = countOf (irqNext (l .origin) (irqOf (l .timing) r) e)
 
 abbrev pub audioNext : Origin → Audio → Event → Audio
-audioNext o x (cpuWrites a v) = audioAfter (decode (isB (o .revision)) a) v x
+audioNext o x (cpuWrites a v) = audioWrittenTo (decode (isB (o .revision)) a) v x
 audioNext o x (pictureWrites a v) = x
 audioNext o x (clocks n) = times n audioClocked x
 audioNext o x resets = audioReset x
@@ -134,7 +125,7 @@ module _ (c : Creation) (o : Origin) (g : Registers) (eight : length (g .chr) �
 
   written : (k : Register) (v : ℕ) (t : Timing) (r : Count) (a : Audio) → Known k
       → registerWritten k v (boardOf c o g t r a)
-      ≡ boardOf c o (registersAfter k v g) (timingAfter k v t) (countOf (irqAt k v (irqOf t r))) (audioAfter k v a)
+      ≡ boardOf c o (registersAfter k v g) (timingAfter k v t) (countOf (irqWrittenTo k v (irqOf t r))) (audioWrittenTo k v a)
   written Nothing v t r a h = refl
   written (OfBank b) v t r a h = rw (banked b v h)
   written (OfAudio s) v t r a h = refl
@@ -186,8 +177,10 @@ board-by x b n h = ap (λ (m : ℕ). heldBy (unless m b (x .board)) (x .fixed) (
 
 asks-done : (x : State) (q : Ask) → engineRefusal (x .board) ≡ 0 → nextBy x (asks q) ≡ done x (asked q)
 unfolding times
-asks-done x clocking h = board-by x (clocked (x .board)) (engineRefusal (x .board)) h
-asks-done x resetting h = board-by x (wasReset (x .board)) (engineRefusal (x .board)) h
+asks-done x clocking h =
+    ap (λ (r : Clocked). heldBy (r .board) (x .fixed) (x .changing)) (clock-law (x .board)) ∙ board-by x (clocked (x .board)) (engineRefusal (x .board)) h
+asks-done x resetting h =
+    ap (λ (r : Written). heldBy (r .board) (x .fixed) (x .changing)) (reset-law (x .board)) ∙ board-by x (wasReset (x .board)) (engineRefusal (x .board)) h
 asks-done x leveling h = refl
 asks-done x forecasting h = refl
 
@@ -218,8 +211,8 @@ forecast-number q (suc n) = refl
 
 -- the answer says that number
 asks-answered : (x : State) (q : Ask) → refusalIn (answerTo (x .board) q) ≡ engineRefusal (x .board)
-asks-answered x clocking = refl
-asks-answered x resetting = refl
+asks-answered x clocking = ap (λ (r : Clocked). r .refusal) (clock-law (x .board))
+asks-answered x resetting = ap (λ (r : Written). r .refusal) (reset-law (x .board))
 asks-answered x leveling = level-number (x .board .audio) (engineRefusal (x .board))
 asks-answered x forecasting = forecast-number (x .board .irq) (engineRefusal (x .board))
 
@@ -238,7 +231,9 @@ module _ (c : Creation) (l : Ledger) (r : Count) (x : Audio) where
   one-tick : engineRefusal (shown c l r x .board) ≡ 0 → ticksIn (givenBy (shown c l r x) (asks clocking)) ≡ ticksNoted (l .timing) (clocks 1)
   unfolding times count
   one-tick h =
-      ap (λ (n : ℕ). flag (unless n (clockAnswer (irqOf (l .timing) r) .ticked) false)) h ∙ sym (add-zero (flag (clockTicks (l .timing))))
+      ap (λ (r : Clocked). flag (r .ticked)) (clock-law (shown c l r x .board))
+      ∙ ap (λ (n : ℕ). flag (unless n (clockAnswer (irqOf (l .timing) r) .ticked) false)) h
+      ∙ sym (add-zero (flag (clockTicks (l .timing))))
 
   asks-ticked : (q : Ask) → engineRefusal (shown c l r x .board) ≡ 0
       → ticksIn (givenBy (shown c l r x) (asks q)) ≡ ticksNoted (l .timing) (asked q)

@@ -1,5 +1,5 @@
--- Demand 3: one claim about every list of the board's calls from a newly created board (00, demand 3; 01, "Demand 3's lists and their
--- ledger"). Assumes nothing.
+-- Demand 3: one claim about every list of the board's calls from a newly created board (00, 3; 01, Demand 3's lists and their ledger).
+-- Assumes nothing.
 use mathlib.Core.Path.{_≡_}
 use mathlib.Core.Bool.{true, false}
 use mathlib.Core.List.{List, [], _∷_}
@@ -25,7 +25,7 @@ use Rattle.vrc6_ledger.specs.Ledger.{Origin, Timing, Event, cpuWrites, p
 abbrev pub part : {A : Type 0} → (i n : ℕ) → List A → List A
 part i n xs = take n (drop i xs)
 
--- ---- a stretch, a term of 01
+-- ---- a stretch
 -- how many clocks a call is
 abbrev pub weight : Event → ℕ
 weight (cpuWrites a v) = 0
@@ -34,17 +34,17 @@ weight (clocks n) = n
 weight resets = 0
 weight looks = 0
 
--- how many clocks the calls are together: c in 01's formula
+-- how many clocks the calls are together: c in the formula (00, 3)
 abbrev pub clockCount : List Call → ℕ
 clockCount [] = 0
 clockCount (k ∷ ks) = weight (event k) + clockCount ks
 
--- how many ticks the answers report together: "its ticks are the clock answers in it that report a tick" (01), a clock's answer one at most
+-- how many ticks the answers report together, a clock's answer one at most (01, Demand 3's lists and their ledger 7)
 abbrev pub tickCount : List Given → ℕ
 tickCount [] = 0
 tickCount (a ∷ rest) = ticksIn a + tickCount rest
 
--- a register that is not control ($F001) and not acknowledge ($F002)
+-- a register that is not control, $F001, and not acknowledge, $F002 (01, Demand 3's lists and their ledger 7)
 abbrev pub QuietRegister : Register → Type 0
 QuietRegister Nothing = Unit {0}
 QuietRegister (OfBank b) = Unit {0}
@@ -53,7 +53,7 @@ QuietRegister (OfIrq Reload) = Unit {0}
 QuietRegister (OfIrq Control) = ⊥
 QuietRegister (OfIrq Acknowledge) = ⊥
 
--- a call that is no control, acknowledge or reset
+-- a call that is no control, acknowledge or reset (01, Demand 3's lists and their ledger 7)
 abbrev pub Quiet : Origin → Event → Type 0
 Quiet o (cpuWrites a v) = QuietRegister (decode (isB (o .revision)) a)
 Quiet o (pictureWrites a v) = Unit {0}
@@ -61,23 +61,25 @@ Quiet o (clocks n) = Unit {0}
 Quiet o resets = ⊥
 Quiet o looks = Unit {0}
 
--- enabled and not in cycle mode, the prescaler 1 or more; that it is at most 341 is claimed below, and need not be asked for
+-- enabled and not in cycle mode, the prescaler 1 or more; `Claim` says that it is at most 341
+-- (01, Demand 3's lists and their ledger 7; 00, 3)
 pub record CountsLines (t : Timing) : Type 0 where
   pub enabled : t .enabled ≡ true
   pub lines : t .cycle ≡ false
   pub low : 1 ≤ t .prescaler
 
--- the n calls from the i-th on are a stretch: none is control, acknowledge or reset, and the ledger counts lines as it begins (01)
+-- the n calls from the i-th on are a stretch: none is control, acknowledge or reset, and the ledger counts lines as it begins
+-- (01, Demand 3's lists and their ledger 7)
 pub record Stretch (c : Creation) (ks : List Call) (i n : ℕ) : Type 0 where
   pub quiet : Each (λ k. Quiet (ledgerOf c (take i ks) .origin) (event k)) (part i n ks)
   pub begun : CountsLines (ledgerOf c (take i ks) .timing)
 
--- ticks of c clocks from prescaler p: (3 c + 341 - p) / 341, rounded down (00, demand 3)
+-- ticks of c clocks from prescaler p: (3 c + 341 - p) / 341, rounded down (00, 3)
 abbrev pub stretchTicks : (c p : ℕ) → ℕ
 stretchTicks c p = (3 * c + 341 - p) / 341
 
 -- ---- what the claim reads off the board
--- the four interrupt values of a board
+-- the four interrupt values of a board (01, Demand 3's lists and their ledger 7)
 abbrev pub timingOf : VrcIrq → Timing
 timingOf q =
     record {
@@ -87,16 +89,16 @@ timingOf q =
       prescaler = q .«prescalar_counter»;
     }
 
--- the f32 of a whole number, 0 to 61 (00, demand 3)
+-- the f32 of a whole number, 0 to 61 (00, 3)
 abbrev pub WholeSum : Float → Type 0
 WholeSum x = (n : ℕ) × (n ≤ 61) × (x ≡ float n)
 
--- the board that create answers, and the buffers lent there: where every list starts
+-- the board that create answers, and the buffers lent there: where every list starts (01, Demand 3's lists and their ledger 1)
 abbrev pub start : Creation → State
 start c = heldBy (create c .board) (c .fixed) (c .changing)
 
 -- ---- the claim
--- of one creation and one list of calls
+-- what holds of one creation and one list of calls (01, Demand 3's lists and their ledger 7; 00, 3)
 pub record Claim (c : Creation) (ks : List Call) : Type 0 where
   -- no call is refused
   pub accepted : Each (λ a. refusalIn a ≡ 0) (answers (start c) ks)
@@ -120,6 +122,6 @@ pub record Claim (c : Creation) (ks : List Call) : Type 0 where
   pub stretch : (i n : ℕ) → Stretch c ks i n
       → tickCount (part i n (answers (start c) ks)) ≡ stretchTicks (clockCount (part i n ks)) (ledgerOf c (take i ks) .timing .prescaler)
 
--- demand 3: of every accepted creation and every list of calls, whatever their addresses and bytes
+-- demand 3: of every accepted creation and every list of calls, whatever their addresses and bytes (01, Demand 3's lists and their ledger 1; 00, 3)
 abbrev pub Demand3 : Type 0
 Demand3 = (c : Creation) → create c .refusal ≡ 0 → (ks : List Call) → Claim c ks

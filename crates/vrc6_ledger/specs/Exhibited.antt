@@ -30,7 +30,7 @@ zeros l m r =
       changing = replicate (changingLength l) 0;
     }
 
--- where a revision has control: $F001, and on B with the two lines exchanged $F002 (iNES mappers 024 and 026)
+-- where a revision has control: $F001, and on B with the two lines exchanged $F002 (01, Banks and decode 1; iNES mappers 024 and 026)
 abbrev pub controlAt : Revision → ℕ
 controlAt A = 0xF001
 controlAt B = 0xF002
@@ -39,7 +39,7 @@ controlAt B = 0xF002
 abbrev pub oneLine : Revision → List Call
 oneLine r = CpuWrite (controlAt r) 2 ∷ replicate 114 Clock
 
--- of one layout, mirroring and revision
+-- what holds of one layout, mirroring and revision
 pub record Exhibited (l : MemoryLayout) (m : Mirroring) (r : Revision) : Type 0 where
   -- the creation is accepted
   pub accepted : create (zeros l m r) .refusal ≡ 0

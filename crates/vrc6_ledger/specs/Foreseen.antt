@@ -12,11 +12,11 @@ use Rattle.vrc6_calls.specs.Lists.{ticksIn, answers}
 use Rattle.vrc6_ledger.specs.Ledger.{Ledger, Timing, Event, cpuWrites, pictureWrites, clocks, resets, looks, event, noted, opening, timingClocked}
 use Rattle.vrc6_ledger.specs.Demand3.{start}
 
--- whether a clock ticks: while enabled, in cycle mode always, else where the prescaler falls to 0 or less (01, Interrupt)
+-- whether a clock ticks: while enabled, in cycle mode always, else where the prescaler falls to 0 or less (01, Interrupt 1)
 abbrev pub clockTicks : Timing → Bool
 clockTicks t = t .enabled && (t .cycle || leb (t .prescaler) 3)
 
--- how many ticks a call makes: one for each of its clocks that ticks; no other call makes any (01, Interrupt)
+-- how many ticks a call makes: one for each of its clocks that ticks; no other call makes any (01, Interrupt 1)
 abbrev pub ticksNoted : Timing → Event → ℕ
 ticksNoted t (cpuWrites a v) = 0
 ticksNoted t (pictureWrites a v) = 0
@@ -29,6 +29,6 @@ abbrev pub foreseen : Creation → Ledger → List Call → List ℕ
 foreseen c l [] = []
 foreseen c l (k ∷ ks) = ticksNoted (l .timing) (event k) ∷ foreseen c (noted c l (event k)) ks
 
--- of every accepted creation and every list: the answers report these ticks and no others
+-- of every accepted creation and every list: the answers report these ticks and no others (01, Interrupt 1)
 abbrev pub ForeseenLaw : Type 0
 ForeseenLaw = (c : Creation) → create c .refusal ≡ 0 → (ks : List Call) → map ticksIn (answers (start c) ks) ≡ foreseen c (opening c) ks

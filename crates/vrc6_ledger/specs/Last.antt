@@ -1,5 +1,5 @@
 -- The ledger in demand 3's own words: each bank register's last byte or none, and of each byte of the changing buffer the last one written
--- through a page then showing it, or as supplied (00, demand 3). Assumes nothing.
+-- through a page then showing it, or as supplied (00, 3). Assumes nothing.
 use mathlib.Core.Path.{_≡_}
 use mathlib.Core.Bool.{Bool, true, false, cond, _&&_}
 use mathlib.Core.List.{List, [], _∷_}
@@ -32,7 +32,7 @@ byteOr none d = d
 byteOr (some v) d = v
 
 -- ---- the eleven bank registers
--- the two PRG registers, the mode, CHR 0 to 7 (01, Banks and decode)
+-- the two PRG registers, the mode, CHR 0 to 7 (01, Banks and decode 1)
 abbrev pub Eleven : BankRegister → Type 0
 Eleven Prg16 = Unit {0}
 Eleven Prg8 = Unit {0}
@@ -58,7 +58,7 @@ same (Chr i) Prg8 = false
 same (Chr i) Mode = false
 same (Chr i) (Chr j) = eqb i j
 
--- what the ledger holds of one of them
+-- what the ledger holds of one of them (01, Demand 3's lists and their ledger 2)
 abbrev pub lastHeld : Registers → BankRegister → Option ℕ
 lastHeld r Prg16 = r .prg16
 lastHeld r Prg8 = r .prg8
@@ -85,7 +85,7 @@ abbrev pub lastTo : Revision → (b : BankRegister) → List Call → Option ℕ
 lastTo r b [] = none
 lastTo r b (k ∷ ks) = orElse (lastTo r b ks) (writtenTo r b (event k))
 
--- of every creation, every list and each of the eleven: the ledger holds the last byte written to it, or none
+-- of every creation, every list and each of the eleven: the ledger holds the last byte written to it, or none (00, 3)
 abbrev pub RegistersLaw : Type 0
 RegistersLaw = (c : Creation) (ks : List Call) (b : BankRegister) → Eleven b → lastHeld (ledgerOf c ks .registers) b ≡ lastTo (c .revision) b ks
 
@@ -94,7 +94,8 @@ abbrev pub OriginLaw : Type 0
 OriginLaw = (c : Creation) (ks : List Call) → ledgerOf c ks .origin ≡ record { mirroring = c .mirroring; revision = c .revision }
 
 -- ---- the bytes of the changing buffer
--- the byte that a write of v to an address stores at place i of the changing buffer: where the address's page is writable and shows it there
+-- the byte that a write of v to an address stores at place i of the changing buffer: where the address's page is writable and shows
+-- it there (01, Demand 3's lists and their ledger 3)
 abbrev pub storedThrough : Page → (fixed address v i : ℕ) → Option ℕ
 storedThrough e fixed address v i = cond (writable e && eqb (offset e - fixed + address % 1024) i) (some v) none
 
@@ -111,7 +112,7 @@ abbrev pub lastAt : Creation → Ledger → List Call → (i : ℕ) → Option �
 lastAt c l [] i = none
 lastAt c l (k ∷ ks) i = orElse (lastAt c (noted c l (event k)) ks i) (storedBy c l (event k) i)
 
--- of every creation, every list and every place of the changing buffer: the last byte stored there, or as supplied if none was
+-- of every creation, every list and every place of the changing buffer: the last byte stored there, or as supplied if none was (00, 3)
 abbrev pub CopyLaw : Type 0
 CopyLaw =
     (c : Creation) (ks : List Call) (i : ℕ) → i < length (c .changing)

@@ -19,17 +19,17 @@ use Rattle.vrc6_calls.specs.Lists.{next, after}
 use Rattle.vrc6_ledger.specs.Ledger.{ledgerOf, entries}
 use Rattle.vrc6_ledger.specs.Demand3.{start}
 
--- the bytes of both buffers, one behind the other (01, Records)
+-- the bytes of both buffers, one behind the other (01, Records 2)
 abbrev pub bytes : State → List ℕ
 bytes x = x .fixed ++ x .changing
 
--- board and buffers after a write's byte, before its register (01: byte, then register)
+-- board and buffers after a write's byte, before its register (01, The board's calls 1)
 abbrev pub put : Side → State → (address byte : ℕ) → State
 put s x address byte = heldBy (x .board) (x .fixed) (storedAt s x address byte)
 
 -- ---- a byte stored
 -- through a writable entry it is read back at its address, on the same side; no other byte of either buffer moves; through an unwritable
--- entry nothing changes (01, Paging)
+-- entry nothing changes (01, Paging 2)
 pub record Stored (s : Side) (x : State) (address byte : ℕ) : Type 0 where
   pub read-back : writable (entryOf s (x .board) address) ≡ true → byteRead s (put s x address byte) address .byte ≡ byte
   pub others : (i : ℕ) → (i ≡ place (entryOf s (x .board) address) address → ⊥)
@@ -42,7 +42,7 @@ StoredLaw = (s : Side) (x : State) (address byte : ℕ) → memoryRefusal s x ad
 
 -- ---- a write as a call
 -- what a write leaves, where it is not refused: the byte stored, and of a CPU write below $8000 nothing else; from there up a register may
--- follow, which touches no buffer (01, Banks and decode)
+-- follow, which touches no buffer (01, The board's calls 1; 01, Banks and decode 1)
 pub record Wrote (x : State) (address byte : ℕ) : Type 0 where
   pub by-picture : memoryRefusal picture x address true ≡ 0 → next x (PictureWrite address byte) ≡ put picture x address byte
   pub by-cpu : cpuWriteRefusal x address ≡ 0 → address < 0x8000 → next x (CpuWrite address byte) ≡ put cpu x address byte
@@ -62,7 +62,7 @@ abbrev pub Plain : Side → (address : ℕ) → Type 0
 Plain cpu address = address < 0x8000
 Plain picture address = Unit {0}
 
--- after every list of calls: a byte written where the ledger's entry is writable is what the next read there gives
+-- after every list of calls: a byte written where the ledger's entry is writable is what the next read there gives (01, Paging 2)
 abbrev pub ReadBackLaw : Type 0
 ReadBackLaw =
     (c : Creation) → create c .refusal ≡ 0 → (ks : List Call) (s : Side) (address byte : ℕ) → Plain s address
@@ -70,7 +70,7 @@ ReadBackLaw =
     → byteRead s (next (after (start c) ks) (writeOf s address byte)) address .byte ≡ byte
 
 -- ---- a view
--- it is 1,024 bytes, and shows of each address of its page what a picture read gives there (01, page view)
+-- it is 1,024 bytes, and shows of each address of its page what a picture read gives there (01, The board's calls 2)
 pub record Viewed (x : State) (address : ℕ) : Type 0 where
   pub whole : pageViewRefusal x address ≡ 0 → length (pageView x address) ≡ 1024
   pub shows : (b : ℕ) → b / 1024 ≡ address / 1024 → getD (pageView x address) (b % 1024) 0 ≡ byteRead picture x b .byte
@@ -80,7 +80,7 @@ abbrev pub ViewLaw : Type 0
 ViewLaw = (x : State) (address : ℕ) → Viewed x address
 
 -- ---- both tables
--- 64 entries serve the CPU and 16 the picture side, each in range; $3000 repeats $2000 (01, Records and Banks and decode)
+-- 64 entries serve the CPU and 16 the picture side, each in range; $3000 repeats $2000 (01, Records 3; 01, Banks and decode 4)
 pub record Tables (b : Board) : Type 0 where
   pub counts : (s : Side) → length (table s b) ≡ entryCount s
   pub in-range : (s : Side) (n : ℕ) → entryInRange (b .layout) (getD (table s b) n unmapped) ≡ true

@@ -1,6 +1,5 @@
--- The ledger, a term of 01: what creation and the calls' names and arguments alone say of the page entries, the changing buffer and
--- four interrupt values (01, "Demand 3's lists and their ledger"). It is given no answer, no later board and no later buffer.
--- Assumes nothing.
+-- The ledger: what creation and the calls' names and arguments alone say of the page entries, the changing buffer and four interrupt
+-- values. It gets no answer, no later board and no later buffer (01, Demand 3's lists and their ledger 2). Assumes nothing.
 use mathlib.Core.Bool.{Bool, true, false, cond, not, _&&_, _||_}
 use mathlib.Core.List.{List, [], _∷_, map}
 use mathlib.Core.Option.{Option, none, some}
@@ -30,37 +29,41 @@ use Rattle.vrc6_calls.specs.Lists.{Ask, clocking, resetting, leveling, forecast
 use Rattle.vrc6.specs.Boards.{Creation}
 
 -- ---- what it holds
--- the last byte written to each of the eleven bank registers, or none: $8000..3, $C000..3, $B003, $D000..3 and $E000..3 (01, Banks and decode)
+-- the last byte written to each of the eleven bank registers, or none: $8000..3, $C000..3, $B003, $D000..3 and $E000..3
+-- (01, Demand 3's lists and their ledger 2; 01, Banks and decode 1)
 pub record Registers : Type 0 where
   pub prg16 : Option ℕ
   pub prg8 : Option ℕ
   pub mode : Option ℕ
   pub chr : List (Option ℕ)
 
--- the four interrupt values: after-acknowledge, enabled, cycle, prescaler (01)
+-- the four interrupt values: after-acknowledge, enabled, cycle, prescaler (01, Demand 3's lists and their ledger 2)
 pub record Timing : Type 0 where
   pub after-acknowledge : Bool
   pub enabled : Bool
   pub cycle : Bool
   pub prescaler : ℕ
 
--- what the board was made with: the mirroring that stands until a register says another, and the revision that decodes (01)
+-- what the board was made with: the mirroring that stands until a register says another, and the revision that decodes
+-- (01, Demand 3's lists and their ledger 2)
 pub record Origin : Type 0 where
   pub mirroring : Mirroring
   pub revision : Revision
 
--- the ledger: what the board was made with, registers, a copy of the changing buffer, interrupt values (01)
+-- the ledger: what the board was made with, registers, a copy of the changing buffer, interrupt values
+-- (01, Demand 3's lists and their ledger 2)
 pub record Ledger : Type 0 where
   pub origin : Origin
   pub registers : Registers
   pub copy : List ℕ
   pub timing : Timing
 
--- the four interrupt values, all 0: at first, and after a reset (01)
+-- the four interrupt values, all 0: at first, and after a reset (01, Demand 3's lists and their ledger 2; 01, Demand 3's lists and their ledger 5)
 abbrev pub noTiming : Timing
 noTiming = record { after-acknowledge = false; enabled = false; cycle = false; prescaler = 0 }
 
--- at creation: mirroring and revision as given, every register has none, and the copy is the changing buffer as supplied (01)
+-- at creation: mirroring and revision as given, every register has none, and the copy is the changing buffer as supplied
+-- (01, Demand 3's lists and their ledger 2)
 abbrev pub opening : Creation → Ledger
 opening c =
     record {
@@ -71,7 +74,7 @@ opening c =
     }
 
 -- ---- its page entries
--- a register that has none counts as 0 (01)
+-- a register that has none counts as 0 (01, Demand 3's lists and their ledger 2)
 abbrev pub byteOf : Option ℕ → ℕ
 byteOf none = 0
 byteOf (some v) = v
@@ -86,12 +89,13 @@ abbrev pub anyHas : List (Option ℕ) → Bool
 anyHas [] = false
 anyHas (o ∷ os) = has o || anyHas os
 
--- mode or a CHR register has a byte; until then creation's mirroring and nametable numbers stand (01)
+-- mode or a CHR register has a byte; until then creation's mirroring and nametable numbers stand (01, Demand 3's lists and their ledger 2)
 abbrev pub settled : Registers → Bool
 settled r = has (r .mode) || anyHas (r .chr)
 
 -- the banking values that follow from what the board was made with and the registers: the mode, the PRG numbers AND $0F and AND $1F, the CHR
--- bytes, mirroring and nametable numbers by 01's table or as the board was made with, the revision (01, Banks and decode)
+-- bytes, mirroring and nametable numbers by the table or as the board was made with, the revision
+-- (01, Banks and decode 1; 01, Banks and decode 5; 01, Banks and decode 6)
 abbrev pub bankingBy : Origin → Registers → Banking
 bankingBy o r =
     record {
@@ -103,29 +107,29 @@ bankingBy o r =
       «revision_b» = isB (o .revision);
     }
 
--- the same of the ledger
+-- the banking values that follow from the ledger
 abbrev pub bankingOf : Ledger → Banking
 bankingOf l = bankingBy (l .origin) (l .registers)
 
--- its page entries, by the rules of Paging and Banks (01: "by the rules above")
+-- its page entries, by the rules of paging and banks (01, Demand 3's lists and their ledger 2)
 abbrev pub entries : Side → Creation → Ledger → List Page
 entries s c l = tableOf s (c .layout) (bankingOf l)
 
 -- ---- what a call is to it
--- a call's name and arguments, board and buffers left out (01); clocks are as many as the call is
+-- a call's name and arguments, board and buffers left out; clocks are as many as the call is (01, Demand 3's lists and their ledger 2)
 pub data Event : Type 0 where
   cpuWrites pictureWrites : (address byte : ℕ) → Event
   clocks : (count : ℕ) → Event
   resets looks : Event
 
--- of interrupt and sound
+-- what a call is to it that asks interrupt and sound alone
 abbrev pub asked : Ask → Event
 asked clocking = clocks 1
 asked resetting = resets
 asked leveling = looks
 asked forecasting = looks
 
--- of each kind; reads, level, view and forecast are all one to it (01: "Any other call: nothing")
+-- what a call of each kind is to it; reads, level, view and forecast are all one (01, Demand 3's lists and their ledger 6)
 abbrev pub eventBy : Shape → Event
 eventBy (reads s a) = looks
 eventBy (writes cpu a v) = cpuWrites a v
@@ -133,26 +137,28 @@ eventBy (writes picture a v) = pictureWrites a v
 eventBy (views a) = looks
 eventBy (asks q) = asked q
 
--- a call, in either form, by value or lent
+-- what a call is to it, in either form, by value or lent (01, Demand 3's lists and their ledger 1)
 abbrev pub event : Call → Event
 event k = eventBy (shape k)
 
 -- ---- what it makes of each
--- a bank register takes the byte (01)
+-- a bank register takes the byte (01, Demand 3's lists and their ledger 3)
 abbrev pub taken : BankRegister → (v : ℕ) → Registers → Registers
 taken Prg16 v r = record { prg16 = some v; prg8 = r .prg8; mode = r .mode; chr = r .chr }
 taken Prg8 v r = record { prg16 = r .prg16; prg8 = some v; mode = r .mode; chr = r .chr }
 taken Mode v r = record { prg16 = r .prg16; prg8 = r .prg8; mode = some v; chr = r .chr }
 taken (Chr i) v r = record { prg16 = r .prg16; prg8 = r .prg8; mode = r .mode; chr = set (r .chr) i (some v) }
 
--- the registers after a CPU write that reaches a register; other registers than the bank registers say nothing here (01)
+-- the registers after a CPU write that reaches a register; other registers than the bank registers say nothing here
+-- (01, Demand 3's lists and their ledger 3)
 abbrev pub registersAfter : Register → (v : ℕ) → Registers → Registers
 registersAfter Nothing v r = r
 registersAfter (OfBank b) v r = taken b v r
 registersAfter (OfAudio s) v r = r
 registersAfter (OfIrq i) v r = r
 
--- $F001 sets after-acknowledge, enabled and cycle from bits 0, 1 and 2, and if enabled prescaler 341; $F002 sets enabled to after-acknowledge (01)
+-- $F001 sets after-acknowledge, enabled and cycle from bits 0, 1 and 2, and if enabled prescaler 341; $F002 sets enabled to
+-- after-acknowledge (01, Demand 3's lists and their ledger 3)
 abbrev pub timed : IrqRegister → (v : ℕ) → Timing → Timing
 timed Reload v t = t
 timed Control v t =
@@ -160,18 +166,18 @@ timed Control v t =
 timed Acknowledge v t =
     record { after-acknowledge = t .after-acknowledge; enabled = t .after-acknowledge; cycle = t .cycle; prescaler = t .prescaler }
 
--- the interrupt values after a CPU write that reaches a register (01)
+-- the interrupt values after a CPU write that reaches a register (01, Demand 3's lists and their ledger 3)
 abbrev pub timingAfter : Register → (v : ℕ) → Timing → Timing
 timingAfter Nothing v t = t
 timingAfter (OfBank b) v t = t
 timingAfter (OfAudio s) v t = t
 timingAfter (OfIrq i) v t = timed i v t
 
--- the prescaler falls by 3, and at 0 or less gains 341 (01)
+-- the prescaler falls by 3, and at 0 or less gains 341 (01, Demand 3's lists and their ledger 4)
 abbrev pub notedFallen : (prescaler : ℕ) → ℕ
 notedFallen p = cond (leb p 3) (p + 341 - 3) (p - 3)
 
--- a clock: if enabled and not in cycle mode the prescaler falls (01)
+-- a clock: if enabled and not in cycle mode the prescaler falls (01, Demand 3's lists and their ledger 4)
 abbrev pub timingClocked : Timing → Timing
 timingClocked t =
     record {
@@ -182,7 +188,7 @@ timingClocked t =
     }
 
 -- where the address's entry is writable, the byte goes into the copy at the entry's offset, less the fixed buffer's length, plus address
--- modulo 1,024 (01)
+-- modulo 1,024 (01, Demand 3's lists and their ledger 3)
 abbrev pub copiedAt : Page → (fixed : ℕ) → (address byte : ℕ) → List ℕ → List ℕ
 copiedAt e fixed address byte copy = cond (writable e) (set copy (offset e - fixed + address % 1024) byte) copy
 
@@ -191,8 +197,8 @@ abbrev pub copied : Side → Creation → Ledger → (address byte : ℕ) → Li
 copied s c l address byte =
     copiedAt (entryFor s (entries s c l) address) (length (c .fixed)) address byte (l .copy)
 
--- the ledger after one call: a CPU write is decoded as the board decodes it (01); of creation it takes the layout and the fixed buffer's
--- length alone
+-- the ledger after one call: a CPU write is decoded as the board decodes it; of creation it takes the layout and the fixed buffer's
+-- length alone (01, Demand 3's lists and their ledger 3; 01, Demand 3's lists and their ledger 5)
 abbrev pub noted : Creation → Ledger → Event → Ledger
 noted c l (cpuWrites a v) =
     record {

@@ -9,7 +9,7 @@ use Rattle.vrc6_calls.specs.Lists.{after}
 use Rattle.vrc6_ledger.specs.Ledger.{Event, cpuWrites, pictureWrites, clocks, resets, looks, event}
 use Rattle.vrc6_ledger.specs.Demand3.{start}
 
--- board and buffers after a call that is not refused: only writes, clocks and resets have an effect (01, "The board's calls")
+-- board and buffers after a call that is not refused: only writes, clocks and resets have an effect (01, The board's calls 1)
 abbrev pub done : State → Event → State
 done x (cpuWrites a v) = cpuWritten x a v
 done x (pictureWrites a v) = pictureWritten x a v
@@ -17,7 +17,7 @@ done x (clocks n) = heldBy (times n clocked (x .board)) (x .fixed) (x .changing)
 done x resets = heldBy (wasReset (x .board)) (x .fixed) (x .changing)
 done x looks = x
 
--- after a list of calls
+-- board and buffers after a list of such calls
 abbrev pub played : State → List Call → State
 played x [] = x
 played x (k ∷ ks) = played (done x (event k)) ks

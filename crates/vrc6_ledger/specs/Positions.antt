@@ -1,5 +1,5 @@
--- The starred reference positions of 01 as rows of one list, with others beside them: what the board of an accepted creation shows after
--- calls at real addresses, and what the paper says. Assumes nothing.
+-- The starred reference positions as rows of one list, with others beside them: what the board of an accepted creation shows after calls
+-- at real addresses, and what the paper says (01, Reference positions). Assumes nothing.
 use mathlib.Core.Path.{_≡_}
 use mathlib.Core.Bool.{Bool, true, false}
 use mathlib.Core.List.{List, [], _∷_, _++_}
@@ -8,7 +8,7 @@ use lib.Ieee.{binary32, toBits}
 use lib.ListN.{getD, replicate}
 use Rattle.base_shared.specs.Rows.{agree, flag}
 use Rattle.memory_layout.specs.declared.regions.MemoryLayout.{MemoryLayout}
-use Rattle.memory_layout.specs.Pages.{offset, writable}
+use Rattle.memory_layout.specs.Pages.{bits, offset, writable}
 use Rattle.memory_tables.specs.Paging.{Side, cpu, picture}
 use Rattle.vrc6_slots.specs.declared.Mirroring.{Mirroring}
 use Rattle.vrc6_slots.specs.declared.Mirroring.the-variants.{Vertical, Horizontal, SingleScreenA, SingleScreenB, FourScreen}
@@ -28,11 +28,12 @@ use Rattle.vrc6_ledger.specs.Demand3.{tickCount, start}
 use Rattle.vrc6_ledger.specs.Exhibited.{zeros}
 
 -- ---- what is played
--- the layouts of the rows: S, and S with 20,480 bytes of PRG ROM or none (01, Reference positions)
+-- the layouts of the rows: S, and S with 20,480 bytes of PRG ROM or none
+-- (01, Reference positions 1; 01, Reference positions 4; 01, Reference positions 5)
 pub data Sample : Type 0 where
   S S20480 S0 : Sample
 
--- layout S with so many bytes of PRG ROM (01, Reference positions)
+-- layout S with so many bytes of PRG ROM (01, Reference positions 1)
 abbrev pub sized : (prg : ℕ) → MemoryLayout
 sized prg = record { «prg_rom» = prg; chr = 131_072; «chr_writable» = false; «prg_ram» = 8_192; ciram = 2_048 }
 
@@ -60,9 +61,9 @@ byCalls =
     }
 
 -- ---- how a row reads it
--- the number of the page entry at an address
+-- the bits of the page entry at an address
 abbrev entryAt : Side → Board → (address : ℕ) → ℕ
-entryAt s b address = entryOf s b address .0
+entryAt s b address = bits (entryOf s b address)
 
 -- the entry of bank n of S's CHR, which starts at 132,096
 abbrev chrBank : (n : ℕ) → ℕ
@@ -82,7 +83,7 @@ bitsOf (Held x) = toBits binary32 x
 bitsOf (Playing x) = toBits binary32 x
 bitsOf (NoLevel n) = 0
 
--- the clocks that a forecast tells
+-- the clocks that a forecast returns
 abbrev clocksIn : Forecast → ℕ
 clocksIn None = 0
 clocksIn (In n) = n
@@ -120,10 +121,10 @@ abbrev saw43 : (n : ℕ) → List Call
 saw43 n = CpuWrite 0xB000 43 ∷ CpuWrite 0xB001 0 ∷ CpuWrite 0xB002 0x80 ∷ replicate n Clock
 
 -- ---- the rows
--- the armed counter (01, Reference positions)
+-- the armed counter
 abbrev pub counting : Play → List (ℕ × ℕ)
 counting p =
-    -- reload $FE, control 2: ticks at clocks 114 and 228
+    -- reload $FE, control 2: ticks at clocks 114 and 228 (01, Reference positions 9)
     (p .ticks S Vertical A (armed 113), 0)
     ∷ (p .ticks S Vertical A (armed 114), 1)
     ∷ (p .ticks S Vertical A (armed 227), 1)
@@ -131,49 +132,49 @@ counting p =
     -- three lines take 341 clocks (VRC IRQ)
     ∷ (p .ticks S Vertical A (armed 340), 2)
     ∷ (p .ticks S Vertical A (armed 341), 3)
-    -- pending at 228 and not at 227
+    -- pending at 228 and not at 227 (01, Reference positions 9)
     ∷ (flag (p .board S Vertical A (armed 227) .irq .«irq_pending»), 0)
     ∷ (flag (p .board S Vertical A (armed 228) .irq .«irq_pending»), 1)
-    -- the forecast of the armed counter, and of one that is not enabled
+    -- the forecast of the armed counter, and of one that is not enabled (01, The board's calls 2)
     ∷ (clocksIn (p .forecast S Vertical A (armed 0)), 228)
     ∷ (flag (isNone (p .forecast S Vertical A [])), 1)
-    -- reset, control 1, acknowledge, clock: a tick, prescaler 338
+    -- reset, control 1, acknowledge, clock: a tick, prescaler 338 (01, Reference positions 10)
     ∷ (p .ticks S Vertical A (acknowledged 1), 1)
     ∷ (p .board S Vertical A (acknowledged 1) .irq .«prescalar_counter», 338)
     ∷ []
 
--- page entries and banking values (01, Reference positions; Banks and decode)
+-- page entries and banking values
 abbrev pub paging : Play → List (ℕ × ℕ)
 paging p =
     let at : List Call → Board = p .board S Vertical A in
-    -- S, fresh: $E000
+    -- S, fresh: $E000 (01, Reference positions 2)
     (entryAt cpu (at []) 0xE000, 123_904)
-    -- S, $8000 gets $1F
+    -- S, $8000 gets $1F (01, Reference positions 3)
     ∷ (entryAt cpu (at (CpuWrite 0x8000 0x1F ∷ [])) 0x8000, 115_712)
-    -- PRG ROM 20,480: $E000, the last whole bank, and not the last 8,192 bytes
+    -- PRG ROM 20,480: $E000, the last whole bank, and not the last 8,192 bytes (01, Reference positions 4; 01, Reference positions 13)
     ∷ (entryAt cpu (p .board S20480 Vertical A []) 0xE000, 9_216)
-    -- length 0 PRG ROM
+    -- length 0 PRG ROM (01, Reference positions 5)
     ∷ (entryAt cpu (p .board S0 Vertical A []) 0xE000, 0)
-    -- mode $21, CHR 0 = 7: slots 0 and 1 take banks 6 and 7
+    -- mode $21, CHR 0 = 7: slots 0 and 1 take banks 6 and 7 (01, Reference positions 6)
     ∷ (entryAt picture (at (paired 0x21)) 0x0000, chrBank 6)
     ∷ (entryAt picture (at (paired 0x21)) 0x0400, chrBank 7)
-    -- mode $01: 7 and 7
+    -- mode $01: 7 and 7 (01, Reference positions 6)
     ∷ (entryAt picture (at (paired 0x01)) 0x0000, chrBank 7)
     ∷ (entryAt picture (at (paired 0x01)) 0x0400, chrBank 7)
-    -- S, mode $30, CHR 6 = 5, 7 = 9: numbers 4 5 8 9, $2000 entry 136,192
+    -- S, mode $30, CHR 6 = 5, 7 = 9: numbers 4 5 8 9, $2000 entry 136,192 (01, Reference positions 7)
     ∷ (getD (at fromChr .banking .«nt_banks») 0 0, 4)
     ∷ (getD (at fromChr .banking .«nt_banks») 1 0, 5)
     ∷ (getD (at fromChr .banking .«nt_banks») 2 0, 8)
     ∷ (getD (at fromChr .banking .«nt_banks») 3 0, 9)
     ∷ (entryAt picture (at fromChr) 0x2000, 136_192)
-    -- $3000 repeats $2000 after a nametable change
+    -- $3000 repeats $2000 after a nametable change (01, Banks and decode 4; 01, Reference positions 13)
     ∷ (entryAt picture (at fromChr) 0x3000, 136_192)
     ∷ (entryAt picture (at fromChr) 0x3C00, chrBank 9)
-    -- revision B, $D002 sets CHR 1; revision A exchanges no lines
+    -- revision B, $D002 sets CHR 1; revision A exchanges no lines (01, Reference positions 8; 01, Reference positions 13)
     ∷ (getD (p .board S Vertical B (CpuWrite 0xD002 5 ∷ []) .banking .chr) 1 0, 5)
     ∷ (getD (at (CpuWrite 0xD002 5 ∷ []) .banking .chr) 2 0, 5)
     ∷ (getD (at (CpuWrite 0xD001 5 ∷ []) .banking .chr) 1 0, 5)
-    -- PRG RAM at $6000 if mode bit 7, writable; else unmapped; PRG ROM is not writable, CIRAM is
+    -- PRG RAM at $6000 if mode bit 7, writable; else unmapped; PRG ROM is not writable, CIRAM is (01, Banks and decode 2; 01, Paging 2)
     ∷ (entryAt cpu (at (mode 0x80)) 0x6000, 2 ^ 31 + 263_168)
     ∷ (offset (entryOf cpu (at (mode 0x80)) 0x7FFF), 263_168 + 7_168)
     ∷ (entryAt cpu (at []) 0x6000, 0)
@@ -182,7 +183,8 @@ paging p =
     ∷ (flag (writable (entryOf picture (at []) 0x2000)), 1)
     ∷ []
 
--- mirroring: as given at creation; as the mode names it; FourScreen for "else" and where bit 4 is set (01, Banks and decode)
+-- mirroring: as given at creation; as the mode names it; FourScreen for "else" and where bit 4 is set
+-- (01, Banks and decode 5; 01, Banks and decode 6)
 abbrev pub mirroring : Play → List (ℕ × ℕ)
 mirroring p =
     let created : Mirroring → ℕ = λ m. p .board S m A [] .banking .mirroring in
@@ -202,28 +204,28 @@ mirroring p =
     ∷ (moded 0x2C, 3)
     ∷ (moded 0x00, 4)
     ∷ (moded 0x33, 4)
-    -- Vertical and Horizontal differ at $2400; creation's numbers stand after a PRG write and not after a CHR write of 0
+    -- Vertical and Horizontal differ at $2400; creation's numbers stand after a PRG write and not after a CHR write of 0 (01, Banks and decode 6)
     ∷ (offset (entryOf picture (p .board S Vertical A []) 0x2400), 271_360 + 1_024)
     ∷ (offset (entryOf picture (p .board S Horizontal A []) 0x2400), 271_360)
     ∷ (offset (entryOf picture (p .board S Vertical A (CpuWrite 0x8000 0 ∷ [])) 0x2400), 271_360 + 1_024)
     ∷ (offset (entryOf picture (p .board S Vertical A (CpuWrite 0xD000 0 ∷ [])) 0x2400), 271_360)
     ∷ []
 
--- the sound (01, Reference positions; VRC6 audio)
+-- the sound (01, Sound 1; VRC6 audio)
 abbrev pub sound : Play → List (ℕ × ℕ)
 sound p =
     let at : List Call → Board = p .board S Vertical A in
     let heard : List Call → Level = p .level S Vertical A in
-    -- saw rate 43: accumulator 215 after five additions, 2 after six
+    -- saw rate 43: accumulator 215 after five additions, 2 after six (01, Reference positions 11)
     (at (saw43 10) .audio .saw .accum, 215)
     ∷ (at (saw43 12) .audio .saw .accum, 2)
-    -- frequency 4,095, shift 8: timer becomes 16
+    -- frequency 4,095, shift 8: timer becomes 16 (01, Reference positions 12)
     ∷ (at (CpuWrite 0x9001 0xFF ∷ CpuWrite 0x9002 0x8F ∷ CpuWrite 0x9003 4 ∷ Clock ∷ []) .audio .pulse1 .timer, 16)
-    -- $9003 = 6: shift 8
+    -- $9003 = 6: shift 8 (01, Reference positions 12)
     ∷ (at (CpuWrite 0x9003 6 ∷ []) .audio .pulse1 .«freq_shift», 8)
     ∷ (at (CpuWrite 0x9003 6 ∷ []) .audio .pulse2 .«freq_shift», 8)
     ∷ (at (CpuWrite 0x9003 6 ∷ []) .audio .saw .«freq_shift», 8)
-    -- the level's name, and its bits at the sums 0 and 26
+    -- the level's name, and its bits at the sums 0 and 26 (01, The board's calls 2)
     ∷ (nameOf (heard []), 0)
     ∷ (nameOf (heard (saw43 0)), 2)
     ∷ (nameOf (heard (saw43 0 ++ CpuWrite 0x9003 1 ∷ [])), 1)
@@ -240,7 +242,7 @@ tiny = record { «prg_rom» = 0; chr = 0; «chr_writable» = false; «prg_ram» 
 abbrev byteAfter : Mirroring → (address : ℕ) → ℕ
 byteAfter m address = byteRead picture (after (start (zeros tiny m A)) (PictureWrite 0x2000 7 ∷ [])) address .byte
 
--- bytes: what is written is read back, at each address that shows it and at no other (01, Paging)
+-- bytes: what is written is read back, at each address that shows it and at no other (01, Paging 2)
 abbrev pub storedBytes : List (ℕ × ℕ)
 storedBytes =
     (byteAfter Vertical 0x2000, 7)
@@ -259,6 +261,6 @@ storedBytes =
 abbrev pub rowsOf : Play → List (ℕ × ℕ)
 rowsOf p = counting p ++ paging p ++ mirroring p ++ sound p ++ storedBytes
 
--- every row's two numbers are equal, as the calls answer
+-- every row's two numbers are equal, as the calls answer (01, Reference positions 1)
 abbrev pub Positions : Type 0
 Positions = agree (rowsOf byCalls) ≡ true

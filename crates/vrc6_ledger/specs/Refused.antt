@@ -1,4 +1,4 @@
--- Refused means given back, of every call (01, "The board's calls", the table's first row) and of create, and the order of the numbers.
+-- Refused means given back, of every call and of create, and the order of the numbers (01, The board's calls; 00, 1).
 -- Assumes nothing.
 use mathlib.Core.Path.{_≡_}
 use mathlib.Core.Bool.{Bool, true, _&&_}
@@ -16,8 +16,8 @@ use Rattle.vrc6.specs.Calls.{create}
 use Rattle.vrc6_calls.specs.Lists.{Shape, reads, writes, views, asks, shape, Given, given, parts, refusalIn, next}
 
 -- ---- refused
--- an answer and the state that the call leaves: board and both buffers as given; byte 0, empty view, no tick, no level, no forecast (01, the
--- table's first row)
+-- an answer and the state that the call leaves: board and both buffers as given; byte 0, empty view, no tick, no level, no forecast
+-- (01, The board's calls 3; 00, 1)
 pub record GivenBack (x : State) (answer : Given) (left : State) : Type 0 where
   pub state : left ≡ x
   pub byte : parts answer .byte ≡ 0
@@ -26,16 +26,17 @@ pub record GivenBack (x : State) (answer : Given) (left : State) : Type 0 where
   pub level : parts answer .levels ≡ []
   pub forecast : parts answer .forecasts ≡ []
 
--- of every call whose refusal number is not 0, whatever board and buffers
+-- a call whose refusal number is not 0 returns board and buffers unchanged, whatever they are
 abbrev pub RefusedLaw : Type 0
 RefusedLaw = (x : State) (k : Call) → (refusalIn (given x k) ≡ 0 → ⊥) → GivenBack x (given x k) (next x k)
 
--- of create: an all-zero board
+-- a refused create returns an all-zero board (01, The board's calls 3; 01, The board's calls 4; 00, 1)
 abbrev pub RefusedCreateLaw : Type 0
 RefusedCreateLaw = (c : Creation) → (create c .refusal ≡ 0 → ⊥) → create c .board ≡ zeroBoard
 
 -- ---- the order of the numbers
--- reads, writes and view: 1, 2, and by 3 the one entry that the address uses, with others that the call also checks (01)
+-- reads, writes and view: 1, 2, and by 3 the one entry that the address uses, with others that the call also checks
+-- (01, The board's calls 4)
 abbrev pub memoryChecks : Side → State → (address : ℕ) → (others : Bool) → List (Bool × ℕ)
 memoryChecks s x a others =
     (withinLimits (x .board .layout), 1)
@@ -43,11 +44,11 @@ memoryChecks s x a others =
     ∷ (others && entryInRange (x .board .layout) (entryOf s (x .board) a), 3)
     ∷ []
 
--- clock, reset, level and forecast: interrupt and sound only (01)
+-- clock, reset, level and forecast: interrupt and sound only (01, The board's calls 4)
 abbrev pub engineChecks : State → List (Bool × ℕ)
 engineChecks x = (engineInRange (x .board), 3) ∷ []
 
--- what each kind of call checks, in order, with the number of each (01, "The board's calls")
+-- what each kind of call checks, in order, with the number of each (01, The board's calls 4)
 abbrev pub checksBy : State → Shape → List (Bool × ℕ)
 checksBy x (reads s a) = memoryChecks s x a true
 checksBy x (writes cpu a v) = memoryChecks cpu x a (registerChecks (x .board) a)
@@ -59,7 +60,7 @@ checksBy x (asks q) = engineChecks x
 abbrev pub checks : State → Call → List (Bool × ℕ)
 checks x k = checksBy x (shape k)
 
--- what create checks (01)
+-- what create checks (01, The board's calls 3)
 abbrev pub createChecks : Creation → List (Bool × ℕ)
 createChecks c =
     (withinLimits (c .layout), 1)
@@ -67,7 +68,8 @@ createChecks c =
     ∷ (allZero (take 1024 (c .fixed)), 4)
     ∷ []
 
--- of create, and of every call, whatever board and buffers
+-- create, and every call on any board and buffers, returns the number of the first test that fails, 0 where none does
+-- (01, The board's calls 4)
 pub record OrderLaw : Type 0 where
   pub create-number : (c : Creation) → Numbered (createChecks c) (create c .refusal)
   pub call-number : (x : State) (k : Call) → Numbered (checks x k) (refusalIn (given x k))

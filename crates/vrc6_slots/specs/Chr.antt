@@ -1,4 +1,4 @@
--- The eight CHR slots (VRC6; 01, Banks and decode; `chr_banks`). Assumes nothing.
+-- The eight CHR slots (01, Banks and decode; VRC6; m024_m026_vrc6.rs, chr_banks). Assumes nothing.
 use mathlib.Core.Bool.{cond}
 use mathlib.Core.List.{List, [], _∷_, _++_}
 use Prim.Native.Nat.{ℕ, _+_, _*_, _/_, _%_}
@@ -6,19 +6,19 @@ use lib.Dec.{eqb}
 use lib.ListN.{getD}
 use Rattle.base_shared.specs.Bits.{bit}
 
--- a register AND $FE
+-- a register AND $FE (01, Banks and decode 3; 01, Banks and decode 4)
 abbrev pub evenBank : ℕ → ℕ
 evenBank v = v / 2 * 2
 
--- that + 1
+-- a register AND $FE, plus 1 (01, Banks and decode 3; 01, Banks and decode 4)
 abbrev pub oddBank : ℕ → ℕ
 oddBank v = evenBank v + 1
 
--- two slots from one register: its even and odd bank if mode bit 5, else its bank twice (VRC6, P)
+-- two slots from one register: its even and odd bank if mode bit 5, the wiki's P, else its bank twice (01, Banks and decode 3; VRC6)
 abbrev pub pair : (mode v : ℕ) → List ℕ
 pair m v = cond (bit 5 m) (evenBank v ∷ oddBank v ∷ []) (v ∷ v ∷ [])
 
--- the banks of the eight slots, by mode AND 3 (VRC6, DD)
+-- the banks of the eight slots, by mode AND 3, the wiki's DD (01, Banks and decode 3; VRC6)
 unfoldable pub chrSlots : (mode : ℕ) → (chr : List ℕ) → List ℕ
 chrSlots m c =
     cond (eqb (m % 4) 0) c

@@ -1,4 +1,5 @@
 // The banks of the eight CHR slots.
+use crate::mode::pairs_aligned;
 ghost use mathlib.Core.Path.{_≡_};
 ghost use Prim.Native.Nat.{_+_, _*_, _/_, _%_};
 ghost use Rattle.vrc6_slots.specs.Chr.{chrSlots, evenBank, oddBank, pair};
@@ -17,11 +18,11 @@ pub(crate) fn odd_bank(v: u8) -> u8
     even_bank(v) + 1
 }
 
-// The two slots of one register. Bit 5 of the mode aligns them, ignoring the register's lowest bit.
+// The two slots of one register. Aligned, they ignore the register's lowest bit.
 fn pair(mode: u8, v: u8) -> [u8; 2]
     ensures { λ r. ⌜ r ≡ pair mode v ⌝ }
 {
-    if mode / 32 % 2 == 1 {
+    if pairs_aligned(mode) {
         return [even_bank(v), odd_bank(v)];
     }
     [v, v]

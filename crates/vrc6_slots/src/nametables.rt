@@ -2,6 +2,7 @@
 use crate::Mirroring;
 use crate::chr::even_bank;
 use crate::chr::odd_bank;
+use crate::mode::chr_rom_nametables;
 ghost use mathlib.Core.Path.{_≡_};
 ghost use Prim.Native.Nat.{_+_, _*_, _/_, _%_};
 ghost use Rattle.vrc6_slots.specs.Nametables.{chrNumbers, ciramNumbers, mirroringNumbers, modeMirroring, nametableMirroring, nametableNumbers, wholeRegisters};
@@ -83,11 +84,11 @@ fn ciram_numbers(mirroring: Mirroring, mode: u8, chr: [u8; 8]) -> [u8; 4]
     }
 }
 
-// Bit 4 takes the nametables from CHR, where every slot is selected by itself.
+// From CHR every nametable is selected by itself.
 pub fn nametable_mirroring(mode: u8) -> Mirroring
     ensures { λ r. ⌜ r ≡ nametableMirroring mode ⌝ }
 {
-    if mode / 16 % 2 == 1 {
+    if chr_rom_nametables(mode) {
         return Mirroring::FourScreen;
     }
     mode_mirroring(mode)
@@ -97,7 +98,7 @@ pub fn nametable_numbers(mode: u8, chr: [u8; 8]) -> [u8; 4]
     ensures { λ r. ⌜ r ≡ nametableNumbers mode chr ⌝ }
 {
     let mirroring = mode_mirroring(mode);
-    if mode / 16 % 2 == 1 {
+    if chr_rom_nametables(mode) {
         return chr_numbers(mirroring, mode, chr);
     }
     ciram_numbers(mirroring, mode, chr)

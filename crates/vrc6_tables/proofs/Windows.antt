@@ -14,7 +14,7 @@ use Rattle.memory_layout.specs.Pages.{unmapped}
 use Rattle.memory_layout.specs.Layout.{region}
 use Rattle.memory_rule.specs.declared.runs.EntryRun.{EntryRun}
 use Rattle.memory_tables.specs.Paging.{nothing, replaced, window}
-use Rattle.memory_rule.specs.Required.{octet, runEntries, runEntry}
+use Rattle.memory_rule.specs.Required.{octet, runEntries, runEntry, unmappedRun}
 use Rattle.vrc6_banking.specs.declared.banking.Banking.{Banking}
 use Rattle.vrc6_tables.specs.Required.{ramEntries}
 use Rattle.vrc6_tables.specs.Tables.{cpuEntries}
@@ -54,11 +54,8 @@ whole l b on e =
     (filled (region l PrgRom) (region l PrgRam) (pos (getD (b .«prg_banks») 0 0)) (pos (getD (b .«prg_banks») 1 0)) (bit 7 (b .«banking_mode»)))
 
 -- ---- run by run
-abbrev off : EntryRun
-off = record { first = 0; step = 0 }
-
 pub joined : (l : MemoryLayout) (b : Banking) {rom ram : Region} {first second : ℤ} (low p q r s : EntryRun) {t : List Page}
-    → t ≡ tabulate 64 (runEntry (off ∷ off ∷ off ∷ low ∷ p ∷ q ∷ r ∷ s ∷ []))
+    → t ≡ tabulate 64 (runEntry (unmappedRun ∷ unmappedRun ∷ unmappedRun ∷ low ∷ p ∷ q ∷ r ∷ s ∷ []))
     → runEntries low ≡ ramEntries ram (bit 7 (b .«banking_mode»))
     → runEntries p ≡ octet rom 16384 first 0
     → runEntries q ≡ octet rom 16384 first 1

@@ -1,25 +1,21 @@
 -- `vrc6_forecast` meets its contract: an instance of `Walk`. Assumes nothing.
-use contract.Running.{givenOf, tables, tablesOf}
+use Rattle.host_calls.proofs.Kit.{givenOf, tables, tablesOf, entered, cited}
 use denote.Struct.Laws as LL
-use denote.Triple.Spec.{tripleOf}
-use denote.Triple.Table.{entered, cited}
 use Rattle.vrc6.specs.Calls.{forecast}
 use Rattle.host_answers.specs.Encoded.{forecastEncoded}
 use Rattle.host_calls.proofs.Walk.{keeps-meets}
 use Rattle.host_answers.proofs.EncodedForecast as T
 use Rattle.host_answers.proofs.EncodedForecast.Laws as T′
-use Rattle.host_answers.proofs.encode_forecast as callee
 use Rattle.host_answers.proofs.encode_forecast.Symbol as callee-def
 use Rattle.host_answers.proofs.encode_forecast.Met as callee-thm
 use Rattle.host_calls.proofs.vrc6_forecast.Key.{name as #lent}
-use Rattle.host_calls.proofs.vrc6_forecast as lent
 use Rattle.host_calls.proofs.vrc6_forecast.Statement as stated
 use Rattle.host_calls.proofs.vrc6_forecast.Code as code
 
 pub vrc6-forecast-spec : {M : Type 1} → stated.statement M
 unfolding code.routine tablesOf
 vrc6-forecast-spec 𝓤 H 𝓜 𝓖 𝓡 =
-    entered 𝓤 H (tripleOf 𝓤 H (𝓖 .A) lent.signature (lent.spec 𝓤 H (𝓖 .A) (𝓜 .mem) (𝓡 .run)))
-    (tables 𝓤 H 𝓜 𝓡 code.env .C) (tables 𝓤 H 𝓜 𝓡 code.env .Λ) #lent code.function (code.unfolded 𝓤 H 𝓜 𝓡)
-    (keeps-meets T.the-row T′.mir (λ r w is. LL.lawful T.the-type T′.the-laws 𝓤 H (𝓖 .A) (givenOf 𝓤 H 𝓜 𝓖) .typed r _ is .0) (λ b. forecastEncoded (forecast b .forecast)) callee-def.name 𝓤 H (𝓖 .A) (givenOf 𝓤 H 𝓜 𝓖) (tablesOf 𝓤 H 𝓜 (tables 𝓤 H 𝓜 𝓡 code.env))
-    (cited 𝓤 H (tripleOf 𝓤 H (𝓖 .A) callee.signature (callee.spec 𝓤 H (𝓖 .A) (𝓜 .mem) (𝓡 .run))) 𝓜 𝓡 code.env callee-def.name callee-def.routine code.calls-host-answers·encode-forecast (callee-thm.met 𝓤 H 𝓜 𝓖 𝓡)))
+    entered 𝓤 H _ (tables 𝓤 H 𝓜 𝓡 code.env .C) (tables 𝓤 H 𝓜 𝓡 code.env .Λ) #lent code.function (code.unfolded 𝓤 H 𝓜 𝓡)
+    (keeps-meets T.the-row T′.mir (λ r w is. LL.lawful T.the-type T′.the-laws 𝓤 H (𝓖 .A) (givenOf 𝓤 H 𝓜 𝓖) .typed r _ is .0) (λ b. forecastEncoded (forecast b .forecast)) callee-def.name
+    𝓤 H (𝓖 .A) (givenOf 𝓤 H 𝓜 𝓖) (tablesOf 𝓤 H 𝓜 (tables 𝓤 H 𝓜 𝓡 code.env))
+    (cited 𝓤 H _ 𝓜 𝓡 code.env callee-def.name callee-def.routine code.calls-host-answers·encode-forecast (callee-thm.met 𝓤 H 𝓜 𝓖 𝓡)))

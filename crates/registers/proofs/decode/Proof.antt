@@ -3,7 +3,7 @@ use native.Mathlib.Omega.{arith}
 use mathlib.Core.Path.{refl}
 use Rattle.registers.specs.declared.Register.the-variants.{Nothing, OfBank, OfAudio, OfIrq}
 use Rattle.registers.specs.declared.BankRegister.the-variants.{Prg16, Prg8, Mode, Chr}
-use Rattle.audio.specs.declared.AudioRegister.the-variants.{Pulse1, Pulse2, OfSaw, Halt}
+use Rattle.registers.specs.declared.AudioRegister.the-variants.{Pulse1, Pulse2, OfSaw, Halt}
 use Rattle.registers.specs.declared.IrqRegister.the-variants.{Reload, Control, Acknowledge}
 use Rattle.registers.specs.Decode.{channelRegister}
 use Rattle.registers.proofs.Table.{single, three, fourth, all-four, low, but}

@@ -1,11 +1,10 @@
 -- `prg_windows` meets its contract: the windows stored one after the other are the table. Assumes nothing.
-use mathlib.Core.Path.{_≡_, _∙_, ap, ap₂}
+use mathlib.Core.Path.{_≡_, sym, _∙_, ap, ap₂}
 use mathlib.Core.Bool.{true, false}
 use mathlib.Core.List.{List}
 use Prim.Native.Nat.{ℕ}
 use lib.IntN.{pos}
 use lib.ListN.{getD}
-use borrow.Author.Tests.{eq-eqb, ne-eqb}
 use borrow.Author.Needs.{needs}
 use Rattle.memory_layout.specs.declared.page.Page.{Page}
 use Rattle.memory_layout.specs.declared.regions.Region.{Region}
@@ -66,6 +65,9 @@ map-prg-requires-3 : tie.Need-map-prg-requires-3
 map-prg-requires-3 c κs =
     windowed _ (c .before .before .before .before .before .pre) PrgRom _ (c .before .before .before .before .region .ensures) 0xE000 8192 64 (search needs)
 
+prg-ram-enabled-requires : tie.Need-prg-ram-enabled-requires
+prg-ram-enabled-requires c κs = search needs
+
 map-prg-requires-4 : tie.Need-map-prg-requires-4
 map-prg-requires-4 c κs =
     windowed _ (c .before .before .before .before .before .before .before .before .pre) PrgRam _ (c .before .before .before .before .before .before .region2 .ensures) 0x6000 8192 64 (search needs)
@@ -76,7 +78,7 @@ returns c =
     c .map-prg4 .ensures
     ∙ ap₂ (λ (t : List Page) (r : Region). replaced t 0x6000 (window r 8192 (pos 0)))
     (three (c .before .before .before)) (c .before .before .before .before .before .before .before .region2 .ensures)
-    ∙ whole (a .layout) (a .banking) true (eq-eqb _ _ (c .before .if1 .taken))
+    ∙ whole (a .layout) (a .banking) true (sym (c .before .before .prg-ram-enabled .ensures) ∙ c .before .if1 .taken)
 
 unmap-prg-requires : tie.Need-unmap-prg-requires
 unmap-prg-requires c κs = search needs
@@ -87,7 +89,7 @@ returns-2 c =
     c .unmap-prg .ensures
     ∙ ap (λ (t : List Page). replaced t 0x6000 (nothing 8192))
     (three (c .before .before .before))
-    ∙ whole (a .layout) (a .banking) false (ne-eqb _ _ (c .before .if1 .left))
+    ∙ whole (a .layout) (a .banking) false (sym (c .before .before .prg-ram-enabled .ensures) ∙ c .before .if1 .left)
 
 pub prg-windows-spec : {M : Type 1} → statement M
 prg-windows-spec =
@@ -102,6 +104,7 @@ prg-windows-spec =
     cast-map-prg-2
     map-prg-requires-2
     map-prg-requires-3
+    prg-ram-enabled-requires
     map-prg-requires-4
     returns
     unmap-prg-requires

@@ -3,7 +3,7 @@ use Prim.Native.Nat.{_+_, _*_, _-_, _≤_}
 use mathlib.Core.Path.{_≡_, refl, subst}
 use native.Mathlib.Omega.{arith}
 use borrow.Author.Needs.{needs}
-use Rattle.memory_rule.proofs.Filling.{Stored, stored-next, stored-run, stored-all, far-fits, nth-fits}
+use Rattle.memory_rule.proofs.Filling.{Stored, stored-next, stored-run, stored-all, far, nth-low}
 use Rattle.memory_rule.proofs.runs.run_table.Statement.{statement}
 use Rattle.memory_rule.proofs.runs.run_table.Tie as tie
 
@@ -43,15 +43,15 @@ cast-at c = search needs
 add-at : tie.Need-add-at Inv-loop2 μ-loop2 Inv-loop μ-loop
 add-at c = search needs
 
-mul-t17 : tie.Need-mul-t17 Inv-loop2 μ-loop2 Inv-loop μ-loop
-mul-t17 c =
+mul-pages-on : tie.Need-mul-pages-on Inv-loop2 μ-loop2 Inv-loop μ-loop
+mul-pages-on c =
     let s = c .before .before .before .before .before .before in
-    far-fits (s .args .t1) (s .pre) (c .before .before .before .before .before .loop .k) (c .before .before .loop2 .i) (omega arith)
+    record { fits = omega (arith, far (s .args .t1) (s .pre) (c .before .before .before .before .before .loop .k) (c .before .before .loop2 .i) (omega arith)) }
 
-add-t18 : tie.Need-add-t18 Inv-loop2 μ-loop2 Inv-loop μ-loop
-add-t18 c =
-    let s = c .before .before .before .before .before .before .before in
-    nth-fits (s .args .t1) (s .pre) (c .before .before .before .before .before .before .loop .k) (c .before .before .before .loop2 .i) (omega arith)
+pages-on-requires : tie.Need-pages-on-requires Inv-loop2 μ-loop2 Inv-loop μ-loop
+pages-on-requires c κs =
+    let s = c .before .before .before .before .before .before in
+    nth-low (s .args .t1) (s .pre) (c .before .before .before .before .before .loop .k) (c .before .before .loop2 .i) (omega arith)
 
 mul-pages : tie.Need-mul-pages Inv-loop2 μ-loop2 Inv-loop μ-loop
 mul-pages c = search needs
@@ -69,7 +69,7 @@ loop2-again : tie.Need-loop2-again Inv-loop2 μ-loop2 Inv-loop μ-loop
 loop2-again c =
     let m = c .before .before .before .loop2 in
     let l = c .before .before .before .before .before .before .loop in
-    (omega arith, stored-next (c .before .before .before .before .before .before .before .args .t1) (m .pages) (l .k) (m .i) (omega arith) (omega arith) (m .inv .1))
+    (omega arith, stored-next (c .before .before .before .before .before .before .before .args .t1) (m .pages) (l .k) (m .i) _ (omega arith) (omega arith) (m .inv .1) (c .pages-on .ensures))
 
 add-k : tie.Need-add-k Inv-loop2 μ-loop2 Inv-loop μ-loop
 add-k c = search needs
@@ -100,8 +100,8 @@ run-table-spec =
     mul-at
     cast-at
     add-at
-    mul-t17
-    add-t18
+    mul-pages-on
+    pages-on-requires
     mul-pages
     array-set-from-pages
     add-i

@@ -9,8 +9,8 @@ returns c = search needs
 enum-known-given : tie.Need-enum-known-given
 enum-known-given c = search needs
 
-irq-written-requires : tie.Need-irq-written-requires
-irq-written-requires c κs = search needs
+write-at-requires : tie.Need-write-at-requires
+write-at-requires c κs = search needs
 
 enum-known-given-2 : tie.Need-enum-known-given-2
 enum-known-given-2 c = search needs
@@ -28,7 +28,7 @@ enum-known-given-3 : tie.Need-enum-known-given-3
 enum-known-given-3 c = search needs
 
 returns-2 : tie.Need-returns-2
-returns-2 c = simp (c .before .before .before .before .if1 .left, c .before .before .given .given .1, c .irq-written .ensures)
+returns-2 c = simp (c .before .before .before .before .if1 .left, c .before .before .given .given .1, c .write-at .ensures)
 
 returns-3 : tie.Need-returns-3
 returns-3 c = simp (c .before .before .before .before .if1 .left, c .before .before .given2 .given .1, c .wait .ensures)
@@ -45,7 +45,7 @@ play-spec =
     (tie.spec
     returns
     enum-known-given
-    irq-written-requires
+    write-at-requires
     enum-known-given-2
     wait-requires
     enum-told

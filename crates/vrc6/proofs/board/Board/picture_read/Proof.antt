@@ -7,11 +7,11 @@ use Rattle.vrc6.proofs.board.Board.picture_read.Tie as tie
 picture-page-requires : tie.Need-picture-page-requires
 picture-page-requires c κs = search needs
 
-peek-requires : tie.Need-peek-requires
-peek-requires c κs = search needs
+picture-peek-requires : tie.Need-picture-peek-requires
+picture-peek-requires c κs = search needs
 
 returns : tie.Need-returns
-returns c = rw (c .peek .ensures, c .before .picture-page .ensures)
+returns c = rw (c .picture-peek .ensures, c .before .picture-page .ensures)
 
 pub picture-read-spec : {M : Type 1} → statement M
-picture-read-spec = tie.close (tie.spec picture-page-requires peek-requires returns)
+picture-read-spec = tie.close (tie.spec picture-page-requires picture-peek-requires returns)

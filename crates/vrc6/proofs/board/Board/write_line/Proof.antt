@@ -1,13 +1,17 @@
 -- `Board::write_line` meets its contract. Assumes nothing.
+use Rattle.registers.specs.Decode.{decode}
+use Rattle.vrc6.proofs.Stores.{line-written}
 use borrow.Author.Needs.{needs}
 use Rattle.vrc6.proofs.board.Board.write_line.Statement.{statement}
 use Rattle.vrc6.proofs.board.Board.write_line.Tie as tie
 
-irq-written-requires : tie.Need-irq-written-requires
-irq-written-requires c κs = search needs
+write-at-requires : tie.Need-write-at-requires
+write-at-requires c κs = search needs
 
 returns : tie.Need-returns
-returns c = rw (c .irq-written .ensures)
+returns c h =
+    let a = c .before .before .args in
+    rw (c .write-at .ensures) (line-written (a .val) (a .self) (decode (a .self .banking .«revision_b») (a .addr)) (h .reached))
 
 pub write-line-spec : {M : Type 1} → statement M
-write-line-spec = tie.close (tie.spec irq-written-requires returns)
+write-line-spec = tie.close (tie.spec write-at-requires returns)

@@ -1,8 +1,7 @@
--- `write_irq` meets its contract. Assumes nothing.
-
+-- `VrcIrq::write_register` meets its contract. Assumes nothing.
 use borrow.Author.Needs.{needs}
-use Rattle.vrc6_engine.proofs.writes.write_irq.Statement.{statement}
-use Rattle.vrc6_engine.proofs.writes.write_irq.Tie as tie
+use Rattle.irq.proofs.VrcIrq.write_register.Statement.{statement}
+use Rattle.irq.proofs.VrcIrq.write_register.Tie as tie
 
 enum-told : tie.Need-enum-told
 enum-told c = search needs
@@ -31,8 +30,8 @@ returns-2 c = rw (c .write-control .ensures, c .before .enum-told2 .given .1)
 returns-3 : tie.Need-returns-3
 returns-3 c = rw (c .acknowledge .ensures, c .before .enum-told3 .given .1)
 
-pub write-irq-spec : {M : Type 1} → statement M
-write-irq-spec =
+pub write-register-spec : {M : Type 1} → statement M
+write-register-spec =
     tie.close
     (tie.spec
     enum-told

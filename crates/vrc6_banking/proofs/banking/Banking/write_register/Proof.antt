@@ -1,7 +1,7 @@
--- `Banking::write_bank` meets its contract. Assumes nothing.
+-- `Banking::write_register` meets its contract. Assumes nothing.
 use borrow.Author.Needs.{needs}
-use Rattle.vrc6_banking.proofs.banking.Banking.write_bank.Statement.{statement}
-use Rattle.vrc6_banking.proofs.banking.Banking.write_bank.Tie as tie
+use Rattle.vrc6_banking.proofs.banking.Banking.write_register.Statement.{statement}
+use Rattle.vrc6_banking.proofs.banking.Banking.write_register.Tie as tie
 
 enum-told : tie.Need-enum-told
 enum-told c = search needs
@@ -45,8 +45,8 @@ returns-3 c = rw (c .update-nametables .ensures, c .before .enum-told3 .given .1
 returns-4 : tie.Need-returns-4
 returns-4 c = rw (c .update-nametables2 .ensures, c .before .before .register .given .1)
 
-pub write-bank-spec : {M : Type 1} → statement M
-write-bank-spec =
+pub write-register-spec : {M : Type 1} → statement M
+write-register-spec =
     tie.close
     (tie.spec
     enum-told
