@@ -1,4 +1,5 @@
 pub mod Ticks
+pub mod Asks
 pub mod Shown
 pub mod Kept
 pub mod Whole

@@ -1,17 +1,14 @@
 -- The state that a ledger shows, and that every call which is not refused leads from one such state to the next. Assumes nothing.
-use mathlib.Core.Path.{_≡_, refl, sym, ap, _∙_}
+use mathlib.Core.Path.{_≡_, refl, ap, _∙_}
 use mathlib.Core.Bool.{Bool, true, false, _||_}
 use mathlib.Core.List.{List, [], _∷_, map}
 use mathlib.Core.Option.{Option, some}
 use Prim.Native.Nat.{ℕ, zero, suc, _%_, _<_}
 use native.Mathlib.Omega.{arith}
-use native.Mathlib.Nat.{add-zero, le-of-suc-le-suc, not-suc-le-zero, mod-eq-of-lt}
-use lib.Ieee.{Float}
+use native.Mathlib.Nat.{le-of-suc-le-suc, not-suc-le-zero, mod-eq-of-lt}
 use lib.ListN.{length, set}
 use Rattle.base_shared.specs.Refusals.{firstFailing, unless}
-use Rattle.base_shared.specs.Rows.{flag}
-use Rattle.base_shared.proofs.Tests.{either}
-use Rattle.base_steps.specs.Times.{times, count}
+use Rattle.base_steps.specs.Times.{times}
 use Rattle.base_steps.proofs.Iterated.{worked-out, carried}
 use Rattle.memory_tables.specs.Paging.{cpu, picture}
 use Rattle.registers.specs.declared.Register.{Register}
@@ -24,29 +21,23 @@ use Rattle.registers.proofs.Chr.{chr-law}
 use Rattle.vrc6_banking.specs.Banking.{bankWritten, isB}
 use Rattle.irq.specs.declared.VrcIrq.{VrcIrq}
 use Rattle.irq.specs.Interrupt.{irqZero}
-use Rattle.irq.specs.Timing.{clockAnswer, forecastAnswer}
+use Rattle.irq.specs.Timing.{clockAnswer}
 use Rattle.irq.specs.Writes.{irqWrittenTo}
 use Rattle.audio.specs.declared.Audio.{Audio}
-use Rattle.audio.specs.declared.Level.the-variants.{Refused as NoLevel}
-use Rattle.audio.specs.Sound.{audioWrittenTo, audioClocked, audioReset, anyEnabled}
-use Rattle.audio.specs.Levels.{levelOf, levelName, levelRefusal, outputOf}
+use Rattle.audio.specs.Sound.{audioWrittenTo, audioClocked, audioReset}
 use Rattle.vrc6.specs.declared.board.Board.{Board}
-use Rattle.vrc6_engine.specs.declared.answers.Forecast.the-variants.{Refused}
 use Rattle.vrc6_calls.specs.declared.Call.{Call}
 use Rattle.vrc6.specs.Boards.{State, heldBy, Creation, paged, withEngine}
-use Rattle.vrc6.specs.Checks.{engineRefusal, memoryRefusal, cpuWriteRefusal}
-use Rattle.vrc6_engine.specs.Engine.{forecastOf}
-use Rattle.vrc6.specs.declared.board.Clocked.{Clocked}
-use Rattle.vrc6.specs.declared.board.Written.{Written}
-use Rattle.vrc6.proofs.Engines.{clock-law, reset-law}
-use Rattle.vrc6.specs.Calls.{registerWritten, cpuWritten, pictureWritten, clocked, wasReset}
-use Rattle.vrc6_calls.specs.Lists.{Ask, clocking, resetting, leveling, forecasting, Shape, reads, writes, views, asks, shape, answerTo, givenBy, refusalIn, ticksIn, forecastRefusal, nextBy, next}
-use Rattle.vrc6_ledger.specs.Ledger.{Ledger, Origin, Registers, Timing, Event, cpuWrites, pictureWrites, clocks, resets, looks, asked, eventBy, event, noted, byteOf, has, anyHas, bankingBy, taken, registersAfter, timingAfter, timingClocked, copied}
+use Rattle.vrc6.specs.Checks.{memoryRefusal, cpuWriteRefusal}
+use Rattle.vrc6.specs.Calls.{registerWritten, cpuWritten, pictureWritten, clocked}
+use Rattle.vrc6_calls.specs.Lists.{Shape, reads, writes, views, asks, shape, givenBy, refusalIn, ticksIn, nextBy, next}
+use Rattle.vrc6_ledger.specs.Ledger.{Ledger, Origin, Registers, Timing, Event, cpuWrites, pictureWrites, clocks, resets, looks, eventBy, event, noted, byteOf, has, anyHas, bankingBy, taken, registersAfter, timingAfter, timingClocked, copied}
 use Rattle.vrc6_ledger.specs.Refused.{checksBy}
 use Rattle.vrc6_ledger.specs.Played.{done}
-use Rattle.vrc6_ledger.specs.Foreseen.{clockTicks, ticksNoted}
+use Rattle.vrc6_ledger.specs.Foreseen.{ticksNoted}
 use Rattle.vrc6_ledger.specs.Demand3.{timingOf}
 use Rattle.vrc6_ledger.proofs.Ticks.{same-fall}
+use Rattle.vrc6_ledger.proofs.Asks.{ask-law}
 
 -- ---- a state from a ledger, and from what the ledger does not hold: three interrupt values and the sound
 pub record Count : Type 0 where
@@ -172,79 +163,32 @@ refusalOf x k = refusalBy x (shape k)
 left-by : (x y : State) (n : ℕ) → n ≡ 0 → heldBy (unless n y x .board) (x .fixed) (unless n y x .changing) ≡ heldBy (y .board) (x .fixed) (y .changing)
 left-by x y n h = ap (λ (m : ℕ). heldBy (unless m y x .board) (x .fixed) (unless m y x .changing)) h
 
-board-by : (x : State) (b : Board) (n : ℕ) → n ≡ 0 → heldBy (unless n b (x .board)) (x .fixed) (x .changing) ≡ heldBy b (x .fixed) (x .changing)
-board-by x b n h = ap (λ (m : ℕ). heldBy (unless m b (x .board)) (x .fixed) (x .changing)) h
-
-asks-done : (x : State) (q : Ask) → engineRefusal (x .board) ≡ 0 → nextBy x (asks q) ≡ done x (asked q)
-unfolding times
-asks-done x clocking h =
-    ap (λ (r : Clocked). heldBy (r .board) (x .fixed) (x .changing)) (clock-law (x .board)) ∙ board-by x (clocked (x .board)) (engineRefusal (x .board)) h
-asks-done x resetting h =
-    ap (λ (r : Written). heldBy (r .board) (x .fixed) (x .changing)) (reset-law (x .board)) ∙ board-by x (wasReset (x .board)) (engineRefusal (x .board)) h
-asks-done x leveling h = refl
-asks-done x forecasting h = refl
-
 shape-done : (x : State) (s : Shape) → refusalBy x s ≡ 0 → nextBy x s ≡ done x (eventBy s)
 shape-done x (reads s a) h = refl
 shape-done x (writes cpu a v) h = left-by x (cpuWritten x a v) (cpuWriteRefusal x a) h
 shape-done x (writes picture a v) h = left-by x (pictureWritten x a v) (memoryRefusal picture x a true) h
 shape-done x (views a) h = refl
-shape-done x (asks q) h = asks-done x q h
+shape-done x (asks q) h = ask-law q .done-by x h
 
 pub next-done : (x : State) (k : Call) → refusalOf x k ≡ 0 → next x k ≡ done x (event k)
 next-done x k h = shape-done x (shape k) h
 
--- a level that is there is no refusal, and neither is a forecast
-pub level-fine : (on halt : Bool) (x : Float) → levelRefusal (levelName on halt x) ≡ 0
-unfolding levelName
-level-fine false halt x = refl
-level-fine true true x = refl
-level-fine true false x = refl
-
-pub level-number : (a : Audio) (n : ℕ) → levelRefusal (unless n (levelOf a) (NoLevel n)) ≡ n
-level-number a zero = level-fine (anyEnabled a) (a .halt) (outputOf (a .out))
-level-number a (suc n) = refl
-
-pub forecast-number : (q : VrcIrq) (n : ℕ) → forecastRefusal (unless n (forecastOf (forecastAnswer q)) (Refused n)) ≡ n
-forecast-number q zero = either (λ f. forecastRefusal (forecastOf f) ≡ 0) (q .enabled) refl refl
-forecast-number q (suc n) = refl
-
 -- the answer says that number
-asks-answered : (x : State) (q : Ask) → refusalIn (answerTo (x .board) q) ≡ engineRefusal (x .board)
-asks-answered x clocking = ap (λ (r : Clocked). r .refusal) (clock-law (x .board))
-asks-answered x resetting = ap (λ (r : Written). r .refusal) (reset-law (x .board))
-asks-answered x leveling = level-number (x .board .audio) (engineRefusal (x .board))
-asks-answered x forecasting = forecast-number (x .board .irq) (engineRefusal (x .board))
-
 pub answered : (x : State) (s : Shape) → refusalIn (givenBy x s) ≡ refusalBy x s
 answered x (reads s a) = refl
 answered x (writes cpu a v) = refl
 answered x (writes picture a v) = refl
 answered x (views a) = refl
-answered x (asks q) = asks-answered x q
+answered x (asks q) = ask-law q .number (x .board)
 
 module _ (c : Creation) (l : Ledger) (r : Count) (x : Audio) where
   pub stepped : (k : Call) → length (l .registers .chr) ≡ 8 → refusalOf (shown c l r x) k ≡ 0
       → next (shown c l r x) k ≡ shown c (noted c l (event k)) (countNext l r (event k)) (audioNext (l .origin) x (event k))
   stepped k e h = next-done (shown c l r x) k h ∙ led c l r x (event k) e
 
-  one-tick : engineRefusal (shown c l r x .board) ≡ 0 → ticksIn (givenBy (shown c l r x) (asks clocking)) ≡ ticksNoted (l .timing) (clocks 1)
-  unfolding times count
-  one-tick h =
-      ap (λ (r : Clocked). flag (r .ticked)) (clock-law (shown c l r x .board))
-      ∙ ap (λ (n : ℕ). flag (unless n (clockAnswer (irqOf (l .timing) r) .ticked) false)) h
-      ∙ sym (add-zero (flag (clockTicks (l .timing))))
-
-  asks-ticked : (q : Ask) → engineRefusal (shown c l r x .board) ≡ 0
-      → ticksIn (givenBy (shown c l r x) (asks q)) ≡ ticksNoted (l .timing) (asked q)
-  asks-ticked clocking h = one-tick h
-  asks-ticked resetting h = refl
-  asks-ticked leveling h = refl
-  asks-ticked forecasting h = refl
-
   pub ticked : (s : Shape) → refusalBy (shown c l r x) s ≡ 0 → ticksIn (givenBy (shown c l r x) s) ≡ ticksNoted (l .timing) (eventBy s)
   ticked (reads s a) h = refl
   ticked (writes cpu a v) h = refl
   ticked (writes picture a v) h = refl
   ticked (views a) h = refl
-  ticked (asks q) h = asks-ticked q h
+  ticked (asks q) h = ask-law q .ticks (shown c l r x .board) h
