@@ -37,7 +37,7 @@ enum {
     VRC6_ZEROS = 4    /* vrc6_create only: the first 1,024 bytes of the fixed buffer are not all zero */
 };
 
-/* The mirroring that vrc6_create takes, and that a board holds. */
+/* A mirroring, as settings and a board hold it. */
 enum {
     VRC6_VERTICAL = 0,
     VRC6_HORIZONTAL = 1,
@@ -46,7 +46,7 @@ enum {
     VRC6_FOUR_SCREEN = 4
 };
 
-/* The revision that vrc6_create takes: iNES mapper 024, and mapper 026 with address lines 0 and 1 exchanged. */
+/* A revision, as settings hold it: iNES mapper 024, and mapper 026 with address lines 0 and 1 exchanged. */
 enum { VRC6_REVISION_A = 0, VRC6_REVISION_B = 1 };
 
 /* The name of a level. */
@@ -62,6 +62,12 @@ typedef struct {
     uint32_t prg_ram;  /* 0 to 8,192 */
     uint32_t ciram;    /* 0 to 4,096; 0 means 2,048 */
 } Vrc6MemoryLayout;
+
+/* What a board is made with, beside its memory. */
+typedef struct {
+    uint8_t mirroring; /* 0 to 4, VRC6_VERTICAL to VRC6_FOUR_SCREEN */
+    uint8_t revision;  /* VRC6_REVISION_A or VRC6_REVISION_B */
+} Vrc6Settings;
 
 typedef struct {
     uint8_t banking_mode;
@@ -178,8 +184,8 @@ static inline size_t vrc6_changing_length(Vrc6MemoryLayout layout) {
  * calls it is a board of the layout with all lengths 0: they refuse it by VRC6_LENGTHS, unless the buffers have just 1,024
  * and 2,048 bytes. With such buffers CPU writes from $8000 up refuse it by VRC6_VALUES, and the others take it: it shows
  * the fixed buffer's first page everywhere, and stores nothing. */
-uint8_t vrc6_create(Vrc6Board *board, Vrc6MemoryLayout layout, uint8_t mirroring, uint8_t revision,
-                    const uint8_t *fixed, size_t fixed_len, const uint8_t *changing, size_t changing_len);
+uint8_t vrc6_create(Vrc6Board *board, Vrc6MemoryLayout layout, Vrc6Settings settings, const uint8_t *fixed,
+                    size_t fixed_len, const uint8_t *changing, size_t changing_len);
 
 /* One CPU clock: the interrupt counter, then the sound. Only board->irq and board->audio change.
  * Refused by VRC6_VALUES (interrupt and sound). */
@@ -236,6 +242,10 @@ VRC6_AT(Vrc6MemoryLayout, chr, 4);
 VRC6_AT(Vrc6MemoryLayout, chr_writable, 8);
 VRC6_AT(Vrc6MemoryLayout, prg_ram, 12);
 VRC6_AT(Vrc6MemoryLayout, ciram, 16);
+
+VRC6_SIZE(Vrc6Settings, 2);
+VRC6_AT(Vrc6Settings, mirroring, 0);
+VRC6_AT(Vrc6Settings, revision, 1);
 
 VRC6_SIZE(Vrc6Banking, 17);
 VRC6_AT(Vrc6Banking, banking_mode, 0);

@@ -36,8 +36,13 @@ static inline void insert_cart(void) {
     memset(changing, 0x5A, sizeof changing);
 }
 
+static inline Vrc6Settings settings_of(int mirroring, int revision) {
+    Vrc6Settings settings = {.mirroring = (uint8_t)mirroring, .revision = (uint8_t)revision};
+    return settings;
+}
+
 static inline uint8_t make(Vrc6Board *board) {
-    return vrc6_create(board, cart, VRC6_VERTICAL, VRC6_REVISION_A, fixed, FIXED, changing, CHANGING);
+    return vrc6_create(board, cart, settings_of(VRC6_VERTICAL, VRC6_REVISION_A), fixed, FIXED, changing, CHANGING);
 }
 
 static inline uint8_t cpu_write(Vrc6Board *board, uint16_t addr, uint8_t val) {

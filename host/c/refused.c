@@ -111,8 +111,8 @@ static void not_created(Vrc6MemoryLayout layout, int mirroring, int revision, si
     static const uint8_t zeros[sizeof board];
     memset(&board, 0xEE, sizeof board);
     remember();
-    uint8_t number =
-        vrc6_create(&board, layout, (uint8_t)mirroring, (uint8_t)revision, fixed, fixed_len, changing, CHANGING);
+    Vrc6Settings settings = settings_of(mirroring, revision);
+    uint8_t number = vrc6_create(&board, layout, settings, fixed, fixed_len, changing, CHANGING);
     expect("create", number, wanted);
     for (int i = 0; i < FIELDS; i++)
         expect(fields[i].name, memcmp((uint8_t *)&board + fields[i].at, zeros, fields[i].size), 0);

@@ -34,8 +34,8 @@ static void created_values(bool chr_writable) {
     expect("fixed length", (int64_t)vrc6_fixed_length(layout), (int64_t)fixed_len);
     expect("changing length", (int64_t)vrc6_changing_length(layout), (int64_t)changing_len);
     Vrc6Board b;
-    uint8_t refusal =
-        vrc6_create(&b, layout, VRC6_HORIZONTAL, VRC6_REVISION_B, fixed, fixed_len, ram, changing_len);
+    Vrc6Settings settings = settings_of(VRC6_HORIZONTAL, VRC6_REVISION_B);
+    uint8_t refusal = vrc6_create(&b, layout, settings, fixed, fixed_len, ram, changing_len);
     expect("create", refusal, VRC6_OK);
     expect("layout.prg_rom", b.layout.prg_rom, layout.prg_rom);
     expect("layout.chr", b.layout.chr, layout.chr);
@@ -162,8 +162,8 @@ static void compare(Step s, const Room *before, Room *after) {
 static void walk(const Step *steps, size_t n) {
     static Room room, before, after;
     memset(&room, 0xC3, sizeof room);
-    uint8_t refusal =
-        vrc6_create(&room.board, cart, VRC6_FOUR_SCREEN, VRC6_REVISION_A, fixed, FIXED, changing, CHANGING);
+    Vrc6Settings settings = settings_of(VRC6_FOUR_SCREEN, VRC6_REVISION_A);
+    uint8_t refusal = vrc6_create(&room.board, cart, settings, fixed, FIXED, changing, CHANGING);
     expect("create", refusal, VRC6_OK);
     for (size_t i = 0; i < n; i++) {
         memcpy(&before, &room, sizeof room);

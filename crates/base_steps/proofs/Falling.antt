@@ -1,5 +1,5 @@
 -- The laws of a falling number. Assumes nothing.
-use Prim.Native.Nat.{ℕ, zero, suc, _+_, _-_, _*_, _/_, _≤_, _<_}
+use Prim.Native.Nat.{ℕ, zero, suc, _+_, _-_, _*_, _/_, _≤_, _<_, max}
 use mathlib.Core.Path.{_≡_, sym, ap}
 use mathlib.Core.Logic.{_⊎_, inl, inr}
 use native.Mathlib.Omega.{arith}
@@ -39,9 +39,14 @@ unfolding times
 fall-range-law d l pace p c =
     record {
       within = λ h. keeps (fallen d l) (λ q. q ≤ l) (λ q. one-clock d l pace q .within) p h c;
+      most = go (ran d l pace p c .high);
       above = λ h. keeps (fallen d l) (λ q. 1 ≤ q) (λ q. one-clock d l pace q .above) p h c;
       after-zero = λ h. by-case d l (fell d l p c) (λ q. 1 ≤ q) (λ e. omega arith) (λ e. omega arith);
     }
+  where
+    go : (fell d l p c ≤ l) ⊎ (runs d l p c ≡ 0) → fell d l p c ≤ max p l
+    go (inl h) = omega arith
+    go (inr h) = omega (arith, ran d l pace p c .balance, ap (λ (t : ℕ). l * t) h, mul-zero l)
 
 pub worked-out-law : WorkedOutLaw
 worked-out-law d l pace p c =

@@ -1,5 +1,5 @@
 -- What holds of a falling number, for any step d and length l with 1 ≤ d ≤ l. Assumes nothing.
-use Prim.Native.Nat.{ℕ, suc, _+_, _-_, _*_, _/_, _≤_, _<_, min}
+use Prim.Native.Nat.{ℕ, suc, _+_, _-_, _*_, _/_, _≤_, _<_, min, max}
 use mathlib.Core.Path.{_≡_}
 use mathlib.Core.Logic.{_⊎_, _↔_}
 use Rattle.base_steps.specs.Falls.{Pace, fallen, fell, runs, due}
@@ -27,6 +27,8 @@ TickLaw = (d l : ℕ) → Pace d l → (p c : ℕ) → 1 ≤ p → runs d l p c 
 pub record FallRange (d l p c : ℕ) : Type 0 where
   -- it stays in 0 .. l
   pub within : p ≤ l → fell d l p c ≤ l
+  -- from above l too it never rises above its start
+  pub most : fell d l p c ≤ max p l
   -- it stays at 1 or more
   pub above : 1 ≤ p → 1 ≤ fell d l p c
   -- from 0 too it is at 1 or more after a clock, but for d = l, where it stays 0

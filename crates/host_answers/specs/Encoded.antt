@@ -6,6 +6,7 @@ use lib.Dec.{eqb, leb}
 use lib.Ieee.{binary32, ofBits}
 use lib.ListN.{length, take}
 use Rattle.base_shared.specs.Refusals.{firstFailing, unless}
+use Rattle.base_shared.specs.Rows.{flag}
 use Rattle.memory_layout.specs.declared.regions.MemoryLayout.{MemoryLayout}
 use Rattle.memory_layout.specs.Layout.{layoutChecks}
 use Rattle.memory_layout.specs.Pages.{offset as offsetOf}
@@ -14,6 +15,8 @@ use Rattle.vrc6_slots.specs.declared.Mirroring.{Mirroring}
 use Rattle.vrc6_slots.specs.declared.Mirroring.the-variants.{Vertical, Horizontal, SingleScreenA, SingleScreenB, FourScreen}
 use Rattle.vrc6_banking.specs.declared.banking.Revision.{Revision}
 use Rattle.vrc6_banking.specs.declared.banking.Revision.the-variants.{A, B}
+use Rattle.vrc6_banking.specs.declared.banking.Settings.{Settings}
+use Rattle.vrc6_banking.specs.Banking.{mirroringNumber, isB}
 use Rattle.audio.specs.declared.Level.{Level}
 use Rattle.audio.specs.declared.Level.the-variants.{Silent, Held, Playing, Refused as NoLevel}
 use Rattle.irq.specs.Timing.{clockAnswer}
@@ -31,6 +34,7 @@ use Rattle.host_answers.specs.declared.EncodedLevel.{EncodedLevel}
 use Rattle.host_answers.specs.declared.EncodedForecast.{EncodedForecast}
 use Rattle.host_answers.specs.declared.PageAt.{PageAt}
 use Rattle.host_answers.specs.declared.Numbered.{Numbered}
+use Rattle.host_answers.specs.declared.NumberedSettings.{NumberedSettings}
 
 -- ---- create, by numbers
 -- the mirroring of a number (ppu.rs, Mirroring)
@@ -46,24 +50,36 @@ abbrev pub revisionNumbered : ℕ → Revision
 revisionNumbered zero = A
 revisionNumbered (suc n) = B
 
--- both numbers name something: 0 to 4, and 0 or 1
-abbrev pub numbersNamed : (mirroring revision : ℕ) → Bool
-numbersNamed m r = leb m 4 && leb r 1
+-- the numbers of settings that have these of a mirroring and a revision
+abbrev pub numbered : (mirroring revision : ℕ) → NumberedSettings
+numbered m r = record { mirroring = m; revision = r }
+
+-- the settings of numbers (01, The board's calls 1)
+abbrev pub settingsNumbered : NumberedSettings → Settings
+settingsNumbered n = record { mirroring = mirroringNumbered (n .mirroring); revision = revisionNumbered (n .revision) }
+
+-- the numbers of settings (01, The board's calls 1)
+abbrev pub numbersOf : Settings → NumberedSettings
+numbersOf s = record { mirroring = mirroringNumber (s .mirroring); revision = flag (isB (s .revision)) }
+
+-- each number names something: 0 to 4, and 0 or 1
+abbrev pub settingsNamed : NumberedSettings → Bool
+settingsNamed n = leb (n .mirroring) 4 && leb (n .revision) 1
 
 -- the first failing of 1, 2, 3 and 4; here 3 is a number that names nothing (01, The board's calls 3; 01, The board's calls 4)
-abbrev pub numberedRefusal : MemoryLayout → (mirroring revision : ℕ) → (fixed changing : List ℕ) → ℕ
-numberedRefusal l m r fixed changing =
-    firstFailing (layoutChecks l (length fixed) (length changing) ++ (numbersNamed m r, 3) ∷ (allZero (take 1024 fixed), 4) ∷ [])
+abbrev pub numberedRefusal : MemoryLayout → NumberedSettings → (fixed changing : List ℕ) → ℕ
+numberedRefusal l n fixed changing =
+    firstFailing (layoutChecks l (length fixed) (length changing) ++ (settingsNamed n, 3) ∷ (allZero (take 1024 fixed), 4) ∷ [])
 
 -- the board that `create` makes of what the numbers name, or refused the all-zero one, and the refusal's number (01, The board's calls 3)
-abbrev pub createdBy : MemoryLayout → (mirroring revision : ℕ) → (fixed changing : List ℕ) → Created
-createdBy l m r fixed changing =
+abbrev pub createdBy : MemoryLayout → NumberedSettings → (fixed changing : List ℕ) → Created
+createdBy l n fixed changing =
     record {
       board =
-          unless (numberedRefusal l m r fixed changing)
-          (create (record { layout = l; mirroring = mirroringNumbered m; revision = revisionNumbered r; fixed = fixed; changing = changing }) .board)
+          unless (numberedRefusal l n fixed changing)
+          (create (record { layout = l; settings = settingsNumbered n; fixed = fixed; changing = changing }) .board)
           zeroBoard;
-      refusal = numberedRefusal l m r fixed changing;
+      refusal = numberedRefusal l n fixed changing;
     }
 
 -- ---- level and forecast, encoded as numbers

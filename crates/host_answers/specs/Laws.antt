@@ -4,16 +4,13 @@ use mathlib.Core.Bool.{cond}
 use mathlib.Core.List.{List}
 use Prim.Native.Nat.{ℕ, _+_, _≤_}
 use lib.ListN.{length, take, drop}
-use Rattle.base_shared.specs.Rows.{flag}
-use Rattle.vrc6_banking.specs.Banking.{mirroringNumber, isB}
 use Rattle.vrc6.specs.Boards.{State, Creation}
 use Rattle.vrc6.specs.Calls.{create, pageView, pageViewRefusal}
-use Rattle.host_answers.specs.Encoded.{createdBy, pageAt}
+use Rattle.host_answers.specs.Encoded.{numbersOf, createdBy, pageAt}
 
--- creation by the numbers of a mirroring and a revision is creation by these (01, The board's calls 1)
+-- creation by the numbers of settings is creation by these (01, The board's calls 1)
 abbrev pub CreateNumberedLaw : Type 0
-CreateNumberedLaw =
-    (c : Creation) → createdBy (c .layout) (mirroringNumber (c .mirroring)) (flag (isB (c .revision))) (c .fixed) (c .changing) ≡ create c
+CreateNumberedLaw = (c : Creation) → createdBy (c .layout) (numbersOf (c .settings)) (c .fixed) (c .changing) ≡ create c
 
 -- the buffer that `pageAt` places a page in
 abbrev pub bufferOf : State → (address : ℕ) → List ℕ

@@ -10,11 +10,30 @@ use vrc6::board::ResetKind;
 use vrc6::board::Written;
 use vrc6_banking::banking::Mirroring;
 use vrc6_banking::banking::Revision;
+use vrc6_banking::banking::Settings;
 use vrc6_engine::steady::Steady;
 ghost use mathlib.Core.Path.{_≡_};
 ghost use Rattle.vrc6.specs.Boards.{heldBy};
 ghost use Rattle.vrc6.specs.Calls.{forecast, level, reset};
-ghost use Rattle.host_answers.specs.Encoded.{clockNumbered, createdBy, forecastEncoded, levelEncoded, mirroringNumbered, numbersNamed, pageAt, revisionNumbered, steadyClocked, tickNumber};
+ghost use Rattle.host_answers.specs.Encoded.{clockNumbered, createdBy, forecastEncoded, levelEncoded, mirroringNumbered, numbered, pageAt, revisionNumbered, settingsNamed, settingsNumbered, steadyClocked, tickNumber};
+
+// The settings of creation by numbers: mirroring 0 to 4, revision 0 for A and 1 for B.
+#[repr(C)]
+pub struct NumberedSettings {
+    pub mirroring: u8,
+    pub revision: u8,
+}
+
+impl NumberedSettings {
+    pub fn new(mirroring: u8, revision: u8) -> Self
+        ensures { λ r. ⌜ r ≡ numbered mirroring revision ⌝ }
+    {
+        Self {
+            mirroring,
+            revision,
+        }
+    }
+}
 
 // The level; its name, 0 silent, 1 held, 2 playing; the refusal's number. Refused, level and name are 0.
 #[repr(C)]
@@ -67,30 +86,38 @@ fn revision_of(number: u8) -> Revision
     Revision::B
 }
 
-// Whether both numbers name something.
-fn numbers_named(mirroring: u8, revision: u8) -> bool
-    ensures { λ r. ⌜ r ≡ numbersNamed mirroring revision ⌝ }
+// The settings that numbers name, the last of a kind for a number that names nothing.
+fn settings_of(numbers: NumberedSettings) -> Settings
+    ensures { λ r. ⌜ r ≡ settingsNumbered numbers ⌝ }
 {
-    (mirroring <= 4) & (revision <= 1)
+    Settings {
+        mirroring: mirroring_of(numbers.mirroring),
+        revision: revision_of(numbers.revision),
+    }
+}
+
+// Whether each number names something.
+fn settings_named(numbers: NumberedSettings) -> bool
+    ensures { λ r. ⌜ r ≡ settingsNamed numbers ⌝ }
+{
+    (numbers.mirroring <= 4) & (numbers.revision <= 1)
 }
 
 // Create refuses a number that names nothing by 3, after conditions 1 and 2.
 pub fn create_numbered(
     layout: MemoryLayout,
-    mirroring: u8,
-    revision: u8,
+    settings: NumberedSettings,
     fixed: &[u8],
     changing: &[u8],
 ) -> Created
-    ensures { λ r. ⌜ r ≡ createdBy layout mirroring revision (now (fixed .entry)) (now (changing .entry)) ⌝ }
+    ensures { λ r. ⌜ r ≡ createdBy layout settings (now (fixed .entry)) (now (changing .entry)) ⌝ }
 {
-    let m = mirroring_of(mirroring);
-    let r = revision_of(revision);
-    if numbers_named(mirroring, revision) {
-        return Board::create(layout, m, r, fixed, changing);
+    let asked = settings_of(settings);
+    if settings_named(settings) {
+        return Board::create(layout, asked, fixed, changing);
     }
     // An empty buffer fits no layout, so this gives the zero board.
-    let refused = Board::create(layout, m, r, &fixed[0..0], changing);
+    let refused = Board::create(layout, asked, &fixed[0..0], changing);
     let board = refused.board;
     let refusal = layout.refusal(fixed.len(), changing.len());
     if refusal != 0 {

@@ -7,12 +7,16 @@ use denote.Slice.{sliceTy}
 use denote.Signature.{Slot, plain, shrSliceOf}
 use Rattle.memory_layout.proofs.regions.MemoryLayout as L
 use Rattle.vrc6.proofs.board.Board as B
+use Rattle.host_answers.proofs.NumberedSettings as N
 
 abbrev pub BoardS : Slot 3
 BoardS = plain (λ _. B.the-row)
 
 abbrev pub LayoutS : Slot 3
 LayoutS = plain (λ _. L.the-row)
+
+abbrev pub SettingsS : Slot 3
+SettingsS = plain (λ _. N.the-row)
 
 abbrev pub ByteS : Slot 3
 ByteS = plain (λ _. u8)

@@ -4,6 +4,7 @@
 // zero board. Board and buffers cross as references, an answer as a number or a small struct.
 use host_answers::EncodedForecast;
 use host_answers::EncodedLevel;
+use host_answers::NumberedSettings;
 use host_answers::PageAt;
 use host_answers::clock_numbered;
 use host_answers::create_numbered;
@@ -33,15 +34,14 @@ ghost use Rattle.host_calls.specs.Answers.{byteAnswer, tickAnswer, tickD
 pub extern "C" fn vrc6_create(
     board: &mut Board,
     layout: MemoryLayout,
-    mirroring: u8,
-    revision: u8,
+    settings: NumberedSettings,
     fixed: &[u8],
     changing: &[u8],
 ) -> u8
-    ensures { λ r. ⌜ (now (board .exit) ≡ createdBy layout mirroring revision (now (fixed .entry)) (now (changing .entry)) .board)
-        × (r ≡ createdBy layout mirroring revision (now (fixed .entry)) (now (changing .entry)) .refusal) ⌝ }
+    ensures { λ r. ⌜ (now (board .exit) ≡ createdBy layout settings (now (fixed .entry)) (now (changing .entry)) .board)
+        × (r ≡ createdBy layout settings (now (fixed .entry)) (now (changing .entry)) .refusal) ⌝ }
 {
-    let made = create_numbered(layout, mirroring, revision, fixed, changing);
+    let made = create_numbered(layout, settings, fixed, changing);
     *board = made.board;
     made.refusal
 }

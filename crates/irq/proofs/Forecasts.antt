@@ -5,16 +5,16 @@ use mathlib.Core.Logic.{_⊎_, inl, inr, _↔_}
 use Prim.Native.Nat.{ℕ, zero, suc, _+_, _-_, _*_, _/_, _≤_, _<_}
 use native.Mathlib.Omega.{arith}
 use lib.Dec.{leb, eqb}
-use borrow.Author.Tests.{leb-true, leb-false, eq-eqb, ne-eqb}
+use borrow.Author.Tests.{leb-true, leb-false, eq-eqb, ne-eqb, eqb-true, eqb-false}
 use Rattle.base_shared.proofs.Tests.{tested}
 use Rattle.base_steps.specs.Times.{times, count}
-use Rattle.base_steps.specs.Falls.{Pace, due}
+use Rattle.base_steps.specs.Falls.{Pace, runs, due}
 use Rattle.base_steps.proofs.Falling.{fall-due-law, due-plain-law}
 use Rattle.irq.specs.declared.VrcIrq.{VrcIrq}
 use Rattle.irq.specs.declared.IrqForecast.the-variants.{None, In}
-use Rattle.irq.specs.Interrupt.{irqTicks, nextCounter, countsLines, forecastIn}
-use Rattle.irq.specs.Clocks.{irqClockedTimes, reported, LeastClocks}
-use Rattle.irq.specs.Laws.{PendingLaw, GainLaw, OneFirstLaw, NoneLaw, Exact, Late, ForecastLaw}
+use Rattle.irq.specs.Interrupt.{irqAt, irqTicks, nextCounter, countsLines, forecastIn}
+use Rattle.irq.specs.Clocks.{irqClockedTimes, reported, Unset, irqSets, LeastClocks}
+use Rattle.irq.specs.Laws.{PendingLaw, GainLaw, QuietLaw, SoonerLaw, OneFirstLaw, NoneLaw, Exact, Late, ForecastLaw}
 use Rattle.irq.proofs.Runs.{after-clocks-law, lines-report, cycle-law}
 
 pub pending-law : PendingLaw
@@ -39,13 +39,13 @@ by-now true c s k e h g = eq-eqb c 255 (omega arith)
 by-now false c s k e h g = absurd (omega arith)
 
 module _ (d l : ℕ) (q : VrcIrq) where
-  counted : (n : ℕ) → q .counter + reported d l n q ≤ 255 → irqClockedTimes d l n q .counter ≡ q .counter + reported d l n q
+  counted : (n : ℕ) → Unset d l n q → irqClockedTimes d l n q .counter ≡ q .counter + reported d l n q
   unfolding times count
   counted zero h = omega arith
   counted (suc n) h =
       next-counted (irqTicks d (irqClockedTimes d l n q)) (irqClockedTimes d l n q .reload) (irqClockedTimes d l n q .counter) (reported d l n q) (q .counter) (counted n (omega arith)) h
 
-  unset : (n : ℕ) → q .counter + reported d l n q ≤ 255 → irqClockedTimes d l n q .«irq_pending» ≡ q .«irq_pending»
+  unset : (n : ℕ) → Unset d l n q → irqClockedTimes d l n q .«irq_pending» ≡ q .«irq_pending»
   unfolding times count
   unset zero h = refl
   unset (suc n) h =
@@ -57,16 +57,33 @@ module _ (d l : ℕ) (q : VrcIrq) where
 pub gain-law : GainLaw
 gain-law d l n q h =
     let a = after-clocks-law d l n q in
-    λ i.
-    record {
-      reload = a .reload i;
-      counter = counted d l q n h i;
-      «prescalar_counter» = a .prescaler i;
-      «irq_pending» = unset d l q n h i;
-      enabled = a .enabled i;
-      «enabled_after_ack» = a .after-ack i;
-      «cycle_mode» = a .cycle i;
-    }
+    a .rest ∙ (λ i. irqAt q (counted d l q n h i) (a .prescaler i) (unset d l q n h i))
+
+-- one clock more that does not tick at 255
+still-in : (t : Bool) (c s k : ℕ) → c ≡ k + s → k + s ≤ 255 → (t && eqb c 255) ≡ false → k + (cond t 1 0 + s) ≤ 255
+still-in true c s k e h g = omega (arith, eqb-false c 255 g)
+still-in false c s k e h g = omega arith
+
+module _ (d l : ℕ) (q : VrcIrq) where
+  none-sets : (n : ℕ) → Unset d l n q → (i : ℕ) → i < n → irqSets d (irqClockedTimes d l i q) ≡ false
+  unfolding times count
+  none-sets zero u i g = absurd (omega arith)
+  none-sets (suc n) u i g =
+      let s = irqClockedTimes d l n q in
+      tested (eqb i n)
+      (λ e. ap (λ (j : ℕ). irqSets d (irqClockedTimes d l j q)) (eqb-true i n e) ∙ not-yet (irqTicks d s) (s .counter) (reported d l n q) (q .counter) (counted d l q n (omega arith)) u)
+      (λ e. none-sets n (omega arith) i (omega (arith, eqb-false i n e)))
+
+  unset-by : (n : ℕ) → q .counter ≤ 255 → ((i : ℕ) → i < n → irqSets d (irqClockedTimes d l i q) ≡ false) → Unset d l n q
+  unfolding times count
+  unset-by zero h f = omega arith
+  unset-by (suc n) h f =
+      let s = irqClockedTimes d l n q in
+      let u : Unset d l n q = unset-by n h (λ i g. f i (omega arith)) in
+      still-in (irqTicks d s) (s .counter) (reported d l n q) (q .counter) (counted d l q n u) u (f n (omega arith))
+
+pub quiet-law : QuietLaw
+quiet-law d l n q h = (none-sets d l q n, unset-by d l q n h)
 
 module _ (d l : ℕ) (q : VrcIrq) (k-high : q .counter ≤ 255) where
   -- f is the first where f clocks or more, and only they, report 256 - counter ticks
@@ -136,6 +153,18 @@ forecast-law d l pace q e k-high = record { exact = exact; late = late }
         subst (LeastClocks d l q)
         (due-plain-law d l pace (q .«prescalar_counter») (255 - q .counter) .one-more (h .prescaler) (last (h .last)) ∙ ap suc (formula (h .lines)))
         (lining (h .lines))
+
+pub sooner-law : SoonerLaw
+sooner-law d l pace q on k-high n h =
+    tested (q .«cycle_mode») (λ f. omega (arith, cycle-law d l q n on f .0, rw f at h))
+    (λ f.
+    let soon : n < quotient d l q = rw f at h in
+    let told : reported d l n q ≡ runs d l (q .«prescalar_counter») n = lines-report d l q n (rw (on, f)) in
+    let same : (l * (256 - q .counter - 1) + q .«prescalar_counter» + (d - 1)) / d ≡ quotient d l q =
+    ap (λ (k : ℕ). (l * k + q .«prescalar_counter» + (d - 1)) / d) (omega arith) in
+    tested (leb (256 - q .counter) (reported d l n q))
+    (λ e. absurd (omega (arith, fall-due-law d l pace (q .«prescalar_counter») n (256 - q .counter) (omega arith) .0 (omega (arith, leb-true (256 - q .counter) (reported d l n q) e)))))
+    (λ e. omega (arith, leb-false (256 - q .counter) (reported d l n q) e)))
 
 -- ---- there is one first clock
 first-before : (d l : ℕ) (q : VrcIrq) (m n : ℕ) → LeastClocks d l q m → LeastClocks d l q n → m < n → ⊥

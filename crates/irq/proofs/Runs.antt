@@ -10,25 +10,20 @@ use Rattle.base_steps.proofs.Iterated.{still, count-same, count-none, count-all
 use Rattle.base_steps.proofs.Falling.{tick-law}
 use Rattle.irq.specs.declared.VrcIrq.{VrcIrq}
 use Rattle.irq.specs.declared.IrqClocked.{IrqClocked}
-use Rattle.irq.specs.Interrupt.{irqTicks, irqClocked, countsLines}
+use Rattle.irq.specs.Interrupt.{irqAt, irqTicks, irqClocked, countsLines}
 use Rattle.irq.specs.Clocks.{irqClockedTimes, reported}
 use Rattle.irq.specs.Laws.{AfterClocksLaw, StretchLaw, CycleLaw, IdleLaw}
 use Rattle.irq.proofs.Ways.{idle}
 
 pub after-clocks-law : AfterClocksLaw
 unfolding times
-after-clocks-law d l n q =
-    record {
-      reload = kept (λ s. s .reload) (λ s. refl) n;
-      enabled = kept (λ s. s .enabled) (λ s. refl) n;
-      after-ack = kept (λ s. s .«enabled_after_ack») (λ s. refl) n;
-      cycle = kept (λ s. s .«cycle_mode») (λ s. refl) n;
-      prescaler = fall n;
-    }
+after-clocks-law d l n q = record { rest = stays n; prescaler = fall n }
   where
-    kept : {A : Type 0} (f : VrcIrq → A) → ((s : VrcIrq) → f (irqClocked d l s) ≡ f s) → (n : ℕ) → f (irqClockedTimes d l n q) ≡ f q
-    kept f h zero = refl
-    kept f h (suc n) = h (irqClockedTimes d l n q) ∙ kept f h n
+    stays : (n : ℕ) → let s = irqClockedTimes d l n q in s ≡ irqAt q (s .counter) (s .«prescalar_counter») (s .«irq_pending»)
+    stays zero = refl
+    stays (suc n) =
+        let t = irqClockedTimes d l (suc n) q in
+        ap (λ (s : VrcIrq). irqAt s (t .counter) (t .«prescalar_counter») (t .«irq_pending»)) (stays n)
 
     none : (b : Bool) (p : ℕ) → p ≡ cond b p p
     none true p = refl
@@ -41,8 +36,14 @@ after-clocks-law d l n q =
     fall : (n : ℕ) → irqClockedTimes d l n q .«prescalar_counter» ≡ cond (countsLines q) (fell d l (q .«prescalar_counter») n) (q .«prescalar_counter»)
     fall zero = none (countsLines q) (q .«prescalar_counter»)
     fall (suc n) =
-        ap₂ (λ (b : Bool) (p : ℕ). cond b (fallen d l p) p) (kept countsLines (λ s. refl) n) (fall n)
+        ap₂ (λ (b : Bool) (p : ℕ). cond b (fallen d l p) p) (ap countsLines (stays n)) (fall n)
         ∙ more (countsLines q) (q .«prescalar_counter») n
+
+still-enabled : (d l n : ℕ) (q : VrcIrq) → irqClockedTimes d l n q .enabled ≡ q .enabled
+still-enabled d l n q = ap (λ (s : VrcIrq). s .enabled) (after-clocks-law d l n q .rest)
+
+still-cycle : (d l n : ℕ) (q : VrcIrq) → irqClockedTimes d l n q .«cycle_mode» ≡ q .«cycle_mode»
+still-cycle d l n q = ap (λ (s : VrcIrq). s .«cycle_mode») (after-clocks-law d l n q .rest)
 
 -- whether a clock ticks, by the three tests
 ticks-by : (d : ℕ) (q : VrcIrq) {en cy : Bool} {p : ℕ} → q .enabled ≡ en → q .«cycle_mode» ≡ cy → q .«prescalar_counter» ≡ p → irqTicks d q ≡ (en && (cy || leb p d))
@@ -66,9 +67,8 @@ lines-report d l q c h =
   where
     tick : (n : ℕ) → irqTicks d (irqClockedTimes d l n q) ≡ leb (fell d l (q .«prescalar_counter») n) d
     tick n =
-        let a = after-clocks-law d l n q in
-        ticks-by d (irqClockedTimes d l n q) (a .enabled ∙ lines-enabled q h) (a .cycle ∙ lines-mode q h)
-        (a .prescaler ∙ ap (λ (b : Bool). cond b (fell d l (q .«prescalar_counter») n) (q .«prescalar_counter»)) h)
+        ticks-by d (irqClockedTimes d l n q) (still-enabled d l n q ∙ lines-enabled q h) (still-cycle d l n q ∙ lines-mode q h)
+        (after-clocks-law d l n q .prescaler ∙ ap (λ (b : Bool). cond b (fell d l (q .«prescalar_counter») n) (q .«prescalar_counter»)) h)
 
 pub stretch-law : StretchLaw
 stretch-law d l pace q c h k = lines-report d l q c h ∙ tick-law d l pace (q .«prescalar_counter») c k
@@ -80,9 +80,7 @@ cycle-law d l q c e f = (
 )
   where
     tick : (n : ℕ) → irqTicks d (irqClockedTimes d l n q) ≡ true
-    tick n =
-        let a = after-clocks-law d l n q in
-        ticks-by d (irqClockedTimes d l n q) (a .enabled ∙ e) (a .cycle ∙ f) refl
+    tick n = ticks-by d (irqClockedTimes d l n q) (still-enabled d l n q ∙ e) (still-cycle d l n q ∙ f) refl
 
 pub idle-law : IdleLaw
 idle-law d l q c e = (
@@ -91,4 +89,4 @@ idle-law d l q c e = (
 )
   where
     tick : (n : ℕ) → irqTicks d (irqClockedTimes d l n q) ≡ false
-    tick n = ticks-by d (irqClockedTimes d l n q) (after-clocks-law d l n q .enabled ∙ e) refl refl
+    tick n = ticks-by d (irqClockedTimes d l n q) (still-enabled d l n q ∙ e) refl refl

@@ -1,19 +1,29 @@
 -- A run of clocks, and the first of them that sets pending. Assumes nothing.
 use mathlib.Core.Path.{_≡_}
 use mathlib.Core.Bool.{Bool, true, false, _&&_}
-use Prim.Native.Nat.{ℕ, suc, _≤_, _<_}
+use Prim.Native.Nat.{ℕ, suc, _+_, _≤_, _<_}
 use lib.Dec.{eqb}
 use Rattle.base_steps.specs.Times.{times, count}
+use Rattle.base_steps.specs.Falls.{fell, runs}
 use Rattle.irq.specs.declared.VrcIrq.{VrcIrq}
+use Rattle.irq.specs.declared.clocks.Lines.{Lines}
 use Rattle.irq.specs.Interrupt.{irqTicks, irqAnswer}
 
--- the state after n clocks
+-- the state after n clocks (01, Interrupt 1)
 abbrev pub irqClockedTimes : (d l n : ℕ) → VrcIrq → VrcIrq
 irqClockedTimes d l n q = times n (λ s. irqAnswer d l s .irq) q
 
 -- how many of n clocks answer that they ticked
 abbrev pub reported : (d l n : ℕ) → VrcIrq → ℕ
 reported d l n q = count n (λ s. irqAnswer d l s .ticked) (λ s. irqAnswer d l s .irq) q
+
+-- none of n clocks ticks at 255: their ticks leave the counter at 255 or below (01, Interrupt 1)
+abbrev pub Unset : (d l n : ℕ) → VrcIrq → Type 0
+Unset d l n q = q .counter + reported d l n q ≤ 255
+
+-- the lines that end within n clocks that count them, and the prescaler after these (01, Interrupt 1)
+abbrev pub linesGone : (d l p n : ℕ) → Lines
+linesGone d l p n = record { ended = runs d l p n; prescaler = fell d l p n }
 
 -- the next clock ticks at 255, and so sets pending (01, Interrupt 1)
 abbrev pub irqSets : (d : ℕ) → VrcIrq → Bool

@@ -8,14 +8,12 @@ use Rattle.irq.specs.declared.VrcIrq.{VrcIrq}
 use Rattle.irq.specs.declared.IrqForecast.the-variants.{None, In}
 use Rattle.irq.specs.Interrupt.{countsLines, irqAt, irqClocked, irqReload, irqControl, irqAcknowledged, irqZero, irqInRange, forecastIn, irqForecast}
 use Rattle.irq.specs.Timing.{lineStep, lineLength, forecastAnswer}
-use Rattle.irq.specs.Clocks.{irqClockedTimes, reported, irqSets, LeastClocks}
+use Rattle.irq.specs.Clocks.{irqClockedTimes, reported, Unset, irqSets, LeastClocks}
 
 -- what n clocks leave alone, and the prescaler after them
 pub record AfterClocks (d l n : ℕ) (q : VrcIrq) : Type 0 where
-  pub reload : irqClockedTimes d l n q .reload ≡ q .reload
-  pub enabled : irqClockedTimes d l n q .enabled ≡ q .enabled
-  pub after-ack : irqClockedTimes d l n q .«enabled_after_ack» ≡ q .«enabled_after_ack»
-  pub cycle : irqClockedTimes d l n q .«cycle_mode» ≡ q .«cycle_mode»
+  -- all but counter, prescaler and pending stays
+  pub rest : let s = irqClockedTimes d l n q in s ≡ irqAt q (s .counter) (s .«prescalar_counter») (s .«irq_pending»)
   -- it falls where lines are counted, and stays otherwise (01, Demand 3's lists and their ledger 4)
   pub prescaler : irqClockedTimes d l n q .«prescalar_counter» ≡ cond (countsLines q) (fell d l (q .«prescalar_counter») n) (q .«prescalar_counter»)
 
@@ -48,9 +46,20 @@ PendingLaw = (d l : ℕ) (q : VrcIrq) → irqClocked d l q .«irq_pending» ≡ 
 -- (01, Interrupt 1)
 abbrev pub GainLaw : Type 0
 GainLaw =
-    (d l n : ℕ) (q : VrcIrq) → q .counter + reported d l n q ≤ 255
+    (d l n : ℕ) (q : VrcIrq) → Unset d l n q
     → irqClockedTimes d l n q
     ≡ irqAt q (q .counter + reported d l n q) (cond (countsLines q) (fell d l (q .«prescalar_counter») n) (q .«prescalar_counter»)) (q .«irq_pending»)
+
+-- the ticks of n clocks leave a byte at 255 or below exactly where none of the clocks sets pending (01, Interrupt 1)
+abbrev pub QuietLaw : Type 0
+QuietLaw =
+    (d l n : ℕ) (q : VrcIrq) → q .counter ≤ 255
+    → Unset d l n q ↔ ((i : ℕ) → i < n → irqSets d (irqClockedTimes d l i q) ≡ false)
+
+-- fewer clocks than the forecast says set nothing (01, The board's calls 2)
+abbrev pub SoonerLaw : Type 0
+SoonerLaw =
+    (d l : ℕ) → Pace d l → (q : VrcIrq) → q .enabled ≡ true → q .counter ≤ 255 → (n : ℕ) → n < forecastIn d l q → Unset d l n q
 
 -- each call keeps the prescaler in 0 .. l (01, Records 5)
 pub record PrescalerKept (d l : ℕ) (q : VrcIrq) : Type 0 where

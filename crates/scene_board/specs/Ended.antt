@@ -7,6 +7,7 @@ use Rattle.memory_layout.specs.declared.regions.MemoryLayout.{MemoryLayout}
 use Rattle.memory_layout.specs.Pages.{unmapped}
 use Rattle.vrc6.specs.Boards.{State, heldBy}
 use Rattle.vrc6_calls.specs.Lists.{after}
+use Rattle.host_answers.specs.declared.NumberedSettings.{NumberedSettings}
 use Rattle.host_answers.specs.Encoded.{createdBy}
 use Rattle.scene_board.specs.declared.ended.Ended.{Ended}
 use Rattle.scene_board.specs.Played.{callsOf}
@@ -32,17 +33,17 @@ endIn l n x y =
     }
 
 -- the board that creation by numbers gives, with the buffers
-abbrev pub newState : MemoryLayout → (mirroring revision : ℕ) → (fixed changing : List ℕ) → State
-newState l m r f c = heldBy (createdBy l m r f c .board) f c
+abbrev pub newState : MemoryLayout → NumberedSettings → (fixed changing : List ℕ) → State
+newState l s f c = heldBy (createdBy l s f c .board) f c
 
 -- board and buffers at the end of the writes, given as their steps' numbers
-abbrev pub writtenState : MemoryLayout → (mirroring revision : ℕ) → (fixed changing writes : List ℕ) → State
-writtenState l m r f c ws = after (newState l m r f c) (callsOf ws)
+abbrev pub writtenState : MemoryLayout → NumberedSettings → (fixed changing writes : List ℕ) → State
+writtenState l s f c ws = after (newState l s f c) (callsOf ws)
 
 -- board and buffers behind the menu
-abbrev pub doneState : MemoryLayout → (mirroring revision : ℕ) → (fixed changing writes menu : List ℕ) → State
-doneState l m r f c ws ms = after (writtenState l m r f c ws) (callsOf ms)
+abbrev pub doneState : MemoryLayout → NumberedSettings → (fixed changing writes menu : List ℕ) → State
+doneState l s f c ws ms = after (writtenState l s f c ws) (callsOf ms)
 
 -- the end of a scene
-abbrev pub endOf : MemoryLayout → (mirroring revision : ℕ) → (fixed changing writes menu : List ℕ) → Ended
-endOf l m r f c ws ms = endIn l (createdBy l m r f c .refusal) (writtenState l m r f c ws) (doneState l m r f c ws ms)
+abbrev pub endOf : MemoryLayout → NumberedSettings → (fixed changing writes menu : List ℕ) → Ended
+endOf l s f c ws ms = endIn l (createdBy l s f c .refusal) (writtenState l s f c ws) (doneState l s f c ws ms)

@@ -1,6 +1,7 @@
 // A scene's writes and menu, played on a board of its own: the interrupt counter, and the banks that the eight slots show.
 use crate::play;
 use crate::shown::bank_shown;
+use host_answers::NumberedSettings;
 use host_answers::create_numbered;
 use irq::VrcIrq;
 use memory_layout::MemoryLayout;
@@ -32,22 +33,21 @@ fn slots_shown(layout: MemoryLayout, pages: [Page; 16]) -> [u32; 8]
     ]
 }
 
-// No clock changes what slots show, so the menu plays right behind the writes. Steps come as their numbers, mirroring and
-// revision as in `create_numbered`.
+// No clock changes what slots show, so the menu plays right behind the writes. Steps come as their numbers, the
+// settings as in `create_numbered`.
 pub fn play_scene(
     layout: MemoryLayout,
-    mirroring: u8,
-    revision: u8,
+    settings: NumberedSettings,
     fixed: &[u8],
     changing: &mut [u8],
     writes: &[u32],
     menu: &[u32],
 ) -> Ended
-    ensures { λ r. ⌜ r ≡ endOf layout mirroring revision (now (fixed .entry)) (now (changing .entry)) (now (writes .entry)) (now (menu .entry)) ⌝ }
+    ensures { λ r. ⌜ r ≡ endOf layout settings (now (fixed .entry)) (now (changing .entry)) (now (writes .entry)) (now (menu .entry)) ⌝ }
     ensures { λ _. ⌜ now (changing .exit)
-        ≡ doneState layout mirroring revision (now (fixed .entry)) (now (changing .entry)) (now (writes .entry)) (now (menu .entry)) .changing ⌝ }
+        ≡ doneState layout settings (now (fixed .entry)) (now (changing .entry)) (now (writes .entry)) (now (menu .entry)) .changing ⌝ }
 {
-    let created = create_numbered(layout, mirroring, revision, fixed, &*changing);
+    let created = create_numbered(layout, settings, fixed, &*changing);
     let written = play(created.board, fixed, &mut *changing, writes);
     let done = play(written, fixed, changing, menu);
     let irq = written.irq;

@@ -11,7 +11,6 @@ use Rattle.base_shared.specs.Lists.{Each}
 use Rattle.base_shared.specs.Refusals.{unless}
 use Rattle.base_steps.specs.Times.{times}
 use Rattle.base_steps.proofs.Iterated.{keeps}
-use Rattle.memory_tables.specs.Paging.{cpu, picture}
 use Rattle.registers.specs.Decode.{decode}
 use Rattle.irq.specs.declared.VrcIrq.{VrcIrq}
 use Rattle.irq.specs.Timing.{lineStep, lineLength, clockAnswer}
@@ -20,14 +19,17 @@ use Rattle.vrc6_calls.specs.declared.Call.{Call}
 use Rattle.vrc6_calls.specs.declared.Call.the-variants.{Clock}
 use Rattle.vrc6.specs.Boards.{State, Creation, newBoard, zeroBoard}
 use Rattle.vrc6.specs.Calls.{create}
-use Rattle.vrc6_calls.specs.Lists.{Ask, clocking, resetting, leveling, forecasting, Shape, reads, writes, views, asks, shape, refusalIn, next, after, answers}
-use Rattle.vrc6_ledger.specs.Ledger.{Event, cpuWrites, pictureWrites, clocks, resets, looks, asked, eventBy, event}
+use Rattle.vrc6_calls.specs.Lists.{refusalIn, next, after, answers}
+use Rattle.vrc6_ledger.specs.Ledger.{Event, cpuWrites, pictureWrites, clocks, resets, looks, event}
 use Rattle.vrc6_ledger.specs.Demand3.{weight, clockCount, start}
 use Rattle.vrc6_ledger.proofs.Whole.{demand3}
-use Rattle.scene_board.specs.Played.{callsOf}
+use Rattle.scene_steps.specs.declared.step.Step.{Step}
+use Rattle.scene_steps.specs.declared.step.Step.the-variants.{Write, Clocks, Reset, Wrong}
+use Rattle.scene_steps.specs.Steps.{stepCoded}
+use Rattle.scene_board.specs.Played.{stepCalls, callsOf}
 use Rattle.scene_laws.specs.Counter.{counterBy}
 use Rattle.scene_laws.specs.Rises.{ByteEvent, OfByte, Waits, cameAt, risesAt, callsAround}
-use Rattle.scene_laws.specs.Laws.{Comes, RiseLaw, CameLaw}
+use Rattle.scene_laws.specs.Laws.{Comes, RiseLaw, SingleLaw, CameLaw}
 use Rattle.scene_laws.proofs.Boarded.{counter-law}
 use Rattle.scene_laws.proofs.Runs.{Fine, Ready, fine-clocked, fine-taken, fine-zero, taken-clear, ready-after, rises, quiet, quiet-due}
 use Rattle.scene_laws.proofs.Walks.{told, found-same, count-joined, count-run}
@@ -43,24 +45,35 @@ module _ (b : Bool) (q : VrcIrq) (c : q .«irq_pending» ≡ false) where
   risen resets h = absurd (false≢true h)
   risen looks h = absurd (false≢true (sym c ∙ h))
 
--- no call is more than one clock
-asked-light : (q : Ask) → weight (asked q) ≤ 1
-asked-light clocking = omega arith
-asked-light resetting = omega arith
-asked-light leveling = omega arith
-asked-light forecasting = omega arith
-
-light : (s : Shape) → weight (eventBy s) ≤ 1
-light (reads s a) = omega arith
-light (writes cpu a v) = omega arith
-light (writes picture a v) = omega arith
-light (views a) = omega arith
-light (asks q) = asked-light q
-
 pub rise-law : RiseLaw
 rise-law x k h c s =
-    let some = risen (x .board .banking .«revision_b») (x .board .irq) c (event k) (ap (λ (q : VrcIrq). q .«irq_pending») (sym (counter-law x k h .counter)) ∙ s) in
-    omega (arith, some, light (shape k))
+    risen (x .board .banking .«revision_b») (x .board .irq) c (event k)
+    (ap (λ (q : VrcIrq). q .«irq_pending») (sym (counter-law x k h .counter)) ∙ s)
+
+-- a run's calls are clocks, writes and resets
+abbrev Light : List Call → Type 0
+Light = Each (λ (c : Call). weight (event c) ≤ 1)
+
+light-joined : (ks js : List Call) → Light ks → Light js → Light (ks ++ js)
+light-joined [] js h g = g
+light-joined (k ∷ ks) js h g = (h .0, light-joined ks js (h .1) g)
+
+light-clocks : (n : ℕ) → Light (replicate n Clock)
+light-clocks zero = tt
+light-clocks (suc n) = (omega arith, light-clocks n)
+
+light-step : (s : Step) → Light (stepCalls s)
+light-step (Write a v) = (omega arith, tt)
+light-step (Clocks n) = light-clocks n
+light-step Reset = (omega arith, tt)
+light-step (Wrong n) = tt
+
+light-calls : (codes : List ℕ) → Light (callsOf codes)
+light-calls [] = tt
+light-calls (code ∷ codes) = light-joined (stepCalls (stepCoded code)) (callsOf codes) (light-step (stepCoded code)) (light-calls codes)
+
+pub single-law : SingleLaw
+single-law k codes m = light-joined (replicate k Clock) _ (light-clocks k) (light-joined (callsOf codes) _ (light-calls codes) (light-clocks m))
 
 -- ---- no call of a list is refused
 abbrev pub Accepted : State → List Call → Type 0
@@ -111,7 +124,7 @@ on-board x k codes m h f w room =
 -- the counter of a new board
 pub first-fine : (c : Creation) → create c .refusal ≡ 0 → Fine (start c .board .irq)
 first-fine c h =
-    subst (λ (n : ℕ). Fine (unless n (newBoard (c .layout) (c .mirroring) (c .revision)) zeroBoard .irq)) (sym h) fine-zero
+    subst (λ (n : ℕ). Fine (unless n (newBoard (c .layout) (c .settings)) zeroBoard .irq)) (sym h) fine-zero
 
 pub came-law : CameLaw
 came-law c h ws o k w codes room m =

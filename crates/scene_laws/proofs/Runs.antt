@@ -8,7 +8,7 @@ use native.Mathlib.Nat.{add-zero}
 use native.Mathlib.Omega.{arith}
 use lib.Dec.{eqb, leb}
 use lib.ListN.{replicate, replicate-append-replicate}
-use borrow.Author.Tests.{leb-true, leb-false, ne-eqb, eqb-false, not-true}
+use borrow.Author.Tests.{leb-true, eqb-false, not-true}
 use Rattle.base_shared.proofs.Tests.{and-left, and-right, either, tested}
 use Rattle.base_steps.specs.Times.{times}
 use Rattle.registers.specs.declared.Register.{Register}
@@ -20,9 +20,8 @@ use Rattle.irq.specs.Interrupt.{irqInRange, irqZero, forecastIn}
 use Rattle.irq.specs.Timing.{lineStep, lineLength, clockAnswer}
 use Rattle.irq.specs.Clocks.{irqClockedTimes, irqSets, LeastClocks}
 use Rattle.irq.specs.Laws.{Bytes}
-use Rattle.irq.proofs.Runs.{idle-law}
 use Rattle.irq.proofs.Ranges.{prescaler-law, bytes-law}
-use Rattle.irq.proofs.Forecasts.{pending-law}
+use Rattle.irq.proofs.Forecasts.{pending-law, quiet-law}
 use Rattle.irq.proofs.Board.{pace}
 use Rattle.irq.specs.Writes.{irqWrittenTo}
 use Rattle.vrc6_calls.specs.declared.Call.{Call}
@@ -31,7 +30,7 @@ use Rattle.vrc6_ledger.specs.Ledger.{event}
 use Rattle.vrc6_ledger.specs.Demand3.{weight}
 use Rattle.scene_laws.specs.Counter.{counterAfter}
 use Rattle.scene_moments.specs.Moments.{clocksDue, dueFrom, dueWithin}
-use Rattle.scene_moments.proofs.Waiting.{beyond}
+use Rattle.scene_moments.proofs.Waiting.{undisturbed}
 use Rattle.scene_laws.proofs.Least.{clocks-due-law}
 
 -- ---- the counters that a board can hold
@@ -149,12 +148,7 @@ module _ (q : VrcIrq) (f : Fine q) where
       (λ e. absurd (eqb-false (clocksDue q) 0 (not-true (eqb (clocksDue q) 0) (and-left (not (eqb (clocksDue q) 0)) (leb (clocksDue q) n) h)) (law .never .1 e)))
 
   pub quiet-due : (n : ℕ) → dueWithin n (clocksDue q) ≡ false → Quiet n q
-  quiet-due n h i l =
-      tested (q .enabled)
-      (λ e.
-      let first = clocks-due-law q (f .bytes .counter) .least e in
-      first .none-before i (omega (arith, beyond n (clocksDue q) (first .one) h)))
-      (λ e. ap (irqSets lineStep) (idle-law lineStep lineLength q i e .1) ∙ rw e)
+  quiet-due n h = quiet-law lineStep lineLength n q (f .bytes .counter) .0 (undisturbed q n (f .bytes .counter) h)
 
   -- the longest wait is below 30,000 clocks
   short-wait : forecastIn lineStep lineLength q ≤ 30_000

@@ -59,9 +59,9 @@ revision-behind : (ws : List Call) (x : State) → Accepted x ws → after x ws 
 revision-behind [] x h = refl
 revision-behind (w ∷ ws) x h = revision-behind ws (next x w) (h .1) ∙ counter-law x w (h .0) .revision
 
-first-revision : (c : Creation) → create c .refusal ≡ 0 → start c .board .banking .«revision_b» ≡ isB (c .revision)
+first-revision : (c : Creation) → create c .refusal ≡ 0 → start c .board .banking .«revision_b» ≡ isB (c .settings .revision)
 first-revision c h =
-    ap (λ (n : ℕ). unless n (newBoard (c .layout) (c .mirroring) (c .revision)) zeroBoard .banking .«revision_b») h
+    ap (λ (n : ℕ). unless n (newBoard (c .layout) (c .settings)) zeroBoard .banking .«revision_b») h
 
 module _ (c : Creation) (h : create c .refusal ≡ 0) (ws ms : List (List ℕ)) where
   abbrev x : State
@@ -76,7 +76,7 @@ module _ (c : Creation) (h : create c .refusal ≡ 0) (ws ms : List (List ℕ)) 
       endIn (c .layout) (k .refusal) y (after y (callsOf (codesOf ms))))
       (create-numbered-law c)
 
-  revised : x .board .banking .«revision_b» ≡ isB (c .revision)
+  revised : x .board .banking .«revision_b» ≡ isB (c .settings .revision)
   revised = revision-behind (callsOf (codesOf ws)) (start c) (demand3 c h (callsOf (codesOf ws)) .accepted) ∙ first-revision c h
 
 pub scene-law : SceneLaw

@@ -41,11 +41,15 @@ pub record Counted (x : State) (k : Call) : Type 0 where
 abbrev pub CounterLaw : Type 0
 CounterLaw = (x : State) (k : Call) → refusalIn (given x k) ≡ 0 → Counted x k
 
--- only a clock sets pending
+-- only a call that clocks sets pending
 abbrev pub RiseLaw : Type 0
 RiseLaw =
     (x : State) (k : Call) → refusalIn (given x k) ≡ 0 → x .board .irq .«irq_pending» ≡ false → next x k .board .irq .«irq_pending» ≡ true
-    → weight (event k) ≡ 1
+    → 1 ≤ weight (event k)
+
+-- and no call of a run is more than one clock, so the call that sets it is the clock that sets it
+abbrev pub SingleLaw : Type 0
+SingleLaw = (k : ℕ) (codes : List ℕ) (m : ℕ) → Each (λ (c : Call). weight (event c) ≤ 1) (callsAround k codes m)
 
 -- ---- the sweep on the board
 -- a board x with pending clear and no interrupt due within k clocks: if after k clocks the handler runs, and then m clocks, pending is

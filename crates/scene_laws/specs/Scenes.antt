@@ -4,14 +4,14 @@ use mathlib.Core.Bool.{false}
 use mathlib.Core.List.{List}
 use Prim.Native.Nat.{ℕ, _≤_, _<_}
 use lib.ListN.{length}
-use Rattle.base_shared.specs.Rows.{flag}
 use Rattle.irq.specs.Timing.{lineStep, lineLength}
 use Rattle.irq.specs.Clocks.{irqClockedTimes}
-use Rattle.vrc6_banking.specs.Banking.{mirroringNumber, isB}
+use Rattle.vrc6_banking.specs.Banking.{isB}
 use Rattle.vrc6.specs.Boards.{State, Creation}
 use Rattle.vrc6.specs.Calls.{create}
 use Rattle.vrc6_calls.specs.Lists.{after}
 use Rattle.vrc6_ledger.specs.Demand3.{start}
+use Rattle.host_answers.specs.Encoded.{numbersOf}
 use Rattle.scene_board.specs.declared.ended.Ended.{Ended}
 use Rattle.scene_board.specs.Ended.{endOf, slotsShown}
 use Rattle.scene_board.specs.Played.{callsOf}
@@ -27,12 +27,11 @@ sceneWritten c ws = after (start c) (callsOf (codesOf ws))
 
 -- the end that the contract of `play_scene` names
 abbrev pub endFrom : Creation → (writes menu : List (List ℕ)) → Ended
-endFrom c ws ms =
-    endOf (c .layout) (mirroringNumber (c .mirroring)) (flag (isB (c .revision))) (c .fixed) (c .changing) (codesOf ws) (codesOf ms)
+endFrom c ws ms = endOf (c .layout) (numbersOf (c .settings)) (c .fixed) (c .changing) (codesOf ws) (codesOf ms)
 
 -- the sweep that the tool starts there
 abbrev pub sweepOf : Creation → Ended → (window : ℕ) → Sweep
-sweepOf c e window = record { prescaler = e .irq .«prescalar_counter»; «revision_b» = isB (c .revision); window = window }
+sweepOf c e window = record { prescaler = e .irq .«prescalar_counter»; «revision_b» = isB (c .settings .revision); window = window }
 
 -- an end e that is the board's, and whose sweeps are the board's
 pub record SceneOf (c : Creation) (writes menu : List (List ℕ)) (e : Ended) : Type 0 where

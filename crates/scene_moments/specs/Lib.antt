@@ -1,4 +1,3 @@
 pub mod Lines
 pub mod Moments
 pub mod Verdicts
-pub mod Waits

@@ -3,16 +3,11 @@ use irq::IrqForecast;
 use irq::LINE;
 use irq::STEP;
 use irq::VrcIrq;
+use irq::clocks::clock_times;
 use scene_steps::Step;
 use scene_steps::step::step_coded;
 ghost use mathlib.Core.Path.{_≡_};
-ghost use mathlib.Core.Bool.{false};
-ghost use Prim.Native.Nat.{_+_, _≤_};
-ghost use Rattle.irq.specs.Timing.{lineStep, lineLength};
-ghost use Rattle.irq.specs.Clocks.{irqClockedTimes};
-ghost use Rattle.irq.specs.Interrupt.{irqAt};
-ghost use Rattle.scene_moments.specs.Moments.{came, cameAlone, clocksDue, dueWithin, ended, moment, stepped, waited};
-ghost use Rattle.scene_moments.specs.Waits.{LinesGo};
+ghost use Rattle.scene_moments.specs.Moments.{came, cameAlone, clocksDue, ended, moment, stepped, waited};
 
 // The counter, the clocks since the end of the writes, and whether the interrupt has come, which then was on that clock.
 pub struct Moment {
@@ -42,50 +37,6 @@ pub fn clocks_due(irq: VrcIrq) -> u32
     }
 }
 
-// The counter that has gained ticks, with another prescaler.
-fn gained(irq: VrcIrq, ticks: u32, prescaler: u32) -> VrcIrq
-    requires { ⌜ (irq .counter + ticks ≤ 255) × (prescaler ≤ 65535) ⌝ }
-    ensures { λ r. ⌜ r ≡ irqAt irq (irq .counter + ticks) prescaler (irq .«irq_pending») ⌝ }
-{
-    let mut q = irq;
-    q.counter = irq.counter + (ticks as u8);
-    q.prescalar_counter = prescaler as u16;
-    q
-}
-
-// The counter after n clocks that count lines. A division gives the lines that end within them.
-fn lines_gone(irq: VrcIrq, n: u32) -> VrcIrq
-    requires { ⌜ LinesGo irq n ⌝ }
-    ensures { λ r. ⌜ r ≡ irqClockedTimes lineStep lineLength n irq ⌝ }
-{
-    let given = irq.prescalar_counter as u32;
-    let fallen = (STEP as u32) * n;
-    let line = LINE as u32;
-    if fallen < given {
-        return gained(irq, 0, given - fallen);
-    }
-    let ticks = (fallen - given) / line + 1;
-    gained(irq, ticks, given + line * ticks - fallen)
-}
-
-// The counter after n clocks, none of which sets pending.
-fn clock_times(irq: VrcIrq, n: u32) -> VrcIrq
-    requires { ⌜ dueWithin n (clocksDue irq) ≡ false ⌝ }
-    ensures { λ r. ⌜ r ≡ irqClockedTimes lineStep lineLength n irq ⌝ }
-{
-    let armed = irq.enabled;
-    if armed {
-        if n == 0 {
-            return irq;
-        }
-        if irq.cycle_mode {
-            return gained(irq, n, irq.prescalar_counter as u32);
-        }
-        return lines_gone(irq, n);
-    }
-    irq
-}
-
 // Clocks that the handler waits. The interrupt may come in the midst of them.
 fn wait(irq: VrcIrq, clock: u32, n: u32) -> Moment
     ensures { λ r. ⌜ r ≡ waited n (moment irq clock) ⌝ }
@@ -99,7 +50,7 @@ fn wait(irq: VrcIrq, clock: u32, n: u32) -> Moment
         };
     }
     Moment {
-        irq: clock_times(irq, n),
+        irq: clock_times(irq, STEP, LINE, n),
         clock: std::num::wrapping_add_u32(clock, n),
         came: false,
     }

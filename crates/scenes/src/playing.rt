@@ -2,6 +2,7 @@
 // vrc6_ledger.
 use crate::scene::MOST_STEPS;
 use crate::scene::Scene;
+use host_answers::NumberedSettings;
 use irq::VrcIrq;
 use memory_layout::MemoryLayout;
 use scene_board::ended::Ended;
@@ -25,8 +26,7 @@ fn play_on(
     writes: &[u32; MOST_STEPS],
     menu: &[u32; MOST_STEPS],
 ) -> Ended {
-    let mirroring = (scene.mirroring % 256) as u8;
-    let revision = scene.revision_b as u8;
+    let settings = NumberedSettings::new((scene.mirroring % 256) as u8, scene.revision_b as u8);
     let first: &[u32] = writes;
     let second: &[u32] = menu;
     let n = scene.writes;
@@ -35,8 +35,7 @@ fn play_on(
         if m <= second.len() {
             return play_scene(
                 layout,
-                mirroring,
-                revision,
+                settings,
                 fixed,
                 changing,
                 &first[0..n],

@@ -13,10 +13,12 @@ use vrc6::Board;
 use vrc6::board::Created;
 use vrc6_banking::banking::Mirroring;
 use vrc6_banking::banking::Revision;
+use vrc6_banking::banking::Settings;
 
 // FourScreen and revision B, so that a zero board shows.
 fn create(layout: MemoryLayout, fixed: &[u8], changing: &[u8]) -> Created {
-    Board::create(layout, Mirroring::FourScreen, Revision::B, fixed, changing)
+    let settings = Settings::new(Mirroring::FourScreen, Revision::B);
+    Board::create(layout, settings, fixed, changing)
 }
 
 fn refusal(layout: MemoryLayout, fixed: &[u8], changing: &[u8]) -> u64 {

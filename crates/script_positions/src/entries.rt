@@ -13,6 +13,7 @@ use script_rows::tally::heading;
 use vrc6::Board;
 use vrc6_banking::banking::Mirroring;
 use vrc6_banking::banking::Revision;
+use vrc6_banking::banking::Settings;
 
 fn prg(t: Tally, fixed: &[u8], changing: &mut Changing) -> Tally {
     heading(b"PRG entries, layout S");
@@ -36,7 +37,8 @@ fn prg_rom_alone(prg_rom: u32, fixed: &[u8], changing: &[u8]) -> Board {
         prg_ram: 0,
         ciram: 0,
     };
-    let created = Board::create(layout, Mirroring::Vertical, Revision::A, fixed, changing);
+    let settings = Settings::new(Mirroring::Vertical, Revision::A);
+    let created = Board::create(layout, settings, fixed, changing);
     created.board
 }
 

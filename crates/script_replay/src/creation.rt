@@ -11,6 +11,7 @@ use text_output::put_line_end;
 use vrc6::Board;
 use vrc6_banking::banking::Mirroring;
 use vrc6_banking::banking::Revision;
+use vrc6_banking::banking::Settings;
 
 fn mirroring_of(n: u8) -> Mirroring {
     match n {
@@ -27,6 +28,12 @@ fn revision_of(is_b: bool) -> Revision {
         return Revision::B;
     }
     Revision::A
+}
+
+fn settings_of(setup: Setup) -> Settings {
+    let mirroring = mirroring_of(setup.mirroring);
+    let revision = revision_of(setup.revision_b);
+    Settings::new(mirroring, revision)
 }
 
 fn layout_of(setup: Setup) -> MemoryLayout {
@@ -95,9 +102,8 @@ pub fn create(
     if n <= fixed.len() {
         if m <= changing.len() {
             fill_both(&mut fixed[0..n], &mut changing[0..m], setup.seed);
-            let mirroring = mirroring_of(setup.mirroring);
-            let revision = revision_of(setup.revision_b);
-            let created = Board::create(layout, mirroring, revision, &fixed[0..n], &changing[0..m]);
+            let settings = settings_of(setup);
+            let created = Board::create(layout, settings, &fixed[0..n], &changing[0..m]);
             let board = created.board;
             let len = put_created(out, session.len, created.refusal, lengths);
             let mut next = session;

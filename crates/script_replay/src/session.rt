@@ -3,6 +3,7 @@ use memory_layout::MemoryLayout;
 use vrc6::Board;
 use vrc6_banking::banking::Mirroring;
 use vrc6_banking::banking::Revision;
+use vrc6_banking::banking::Settings;
 
 // Wrong in a line beside what its words can be.
 pub const NO_BOARD: u8 = 20;
@@ -36,7 +37,8 @@ impl Session {
             prg_ram: 0,
             ciram: 0,
         };
-        let created = Board::create(layout, Mirroring::Vertical, Revision::A, &none, &none);
+        let settings = Settings::new(Mirroring::Vertical, Revision::A);
+        let created = Board::create(layout, settings, &none, &none);
         let board = created.board;
         Session {
             board,

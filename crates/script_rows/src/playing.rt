@@ -3,6 +3,7 @@ use memory_layout::MemoryLayout;
 use vrc6::Board;
 use vrc6_banking::banking::Mirroring;
 use vrc6_banking::banking::Revision;
+use vrc6_banking::banking::Settings;
 
 // The buffers of layout S.
 pub type Fixed = [u8; 263168];
@@ -24,8 +25,7 @@ pub fn layout_s() -> MemoryLayout {
 pub fn board_s(fixed: &[u8], changing: &Changing) -> Board {
     let created = Board::create(
         layout_s(),
-        Mirroring::Vertical,
-        Revision::A,
+        Settings::new(Mirroring::Vertical, Revision::A),
         fixed,
         changing,
     );
@@ -36,8 +36,7 @@ pub fn board_s(fixed: &[u8], changing: &Changing) -> Board {
 pub fn board_s_b(fixed: &[u8], changing: &Changing) -> Board {
     let created = Board::create(
         layout_s(),
-        Mirroring::Vertical,
-        Revision::B,
+        Settings::new(Mirroring::Vertical, Revision::B),
         fixed,
         changing,
     );

@@ -21,10 +21,10 @@ within l fixed changing h =
 module _ (c : Creation) (n : ℕ) (e : n ≡ createRefusal c) where
   pub created-refused : (n ≡ 0 → ⊥) → record { board = zeroBoard; refusal = n } ≡ create c
   created-refused h =
-      let g = unless-refused (newBoard (c .layout) (c .mirroring) (c .revision)) zeroBoard (createRefusal c) n e h in
+      let g = unless-refused (newBoard (c .layout) (c .settings)) zeroBoard (createRefusal c) n e h in
       λ i. record { board = sym g i; refusal = e i }
 
-  pub created : n ≡ 0 → record { board = newBoard (c .layout) (c .mirroring) (c .revision); refusal = n } ≡ create c
+  pub created : n ≡ 0 → record { board = newBoard (c .layout) (c .settings); refusal = n } ≡ create c
   created h =
-      let g = unless-done (newBoard (c .layout) (c .mirroring) (c .revision)) zeroBoard (createRefusal c) n e h in
+      let g = unless-done (newBoard (c .layout) (c .settings)) zeroBoard (createRefusal c) n e h in
       λ i. record { board = sym g i; refusal = e i }

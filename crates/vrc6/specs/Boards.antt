@@ -8,8 +8,7 @@ use Rattle.memory_layout.specs.declared.regions.MemoryLayout.{MemoryLayout}
 use Rattle.memory_layout.specs.Pages.{unmapped}
 use Rattle.memory_tables.specs.Paging.{Side, cpu, picture, entryFor}
 use Rattle.vrc6_banking.specs.declared.banking.Banking.{Banking}
-use Rattle.vrc6_slots.specs.declared.Mirroring.{Mirroring}
-use Rattle.vrc6_banking.specs.declared.banking.Revision.{Revision}
+use Rattle.vrc6_banking.specs.declared.banking.Settings.{Settings}
 use Rattle.vrc6_banking.specs.Banking.{firstBanking, zeroBanking}
 use Rattle.vrc6_tables.specs.Tables.{cpuEntries, pictureEntries}
 use Rattle.irq.specs.declared.VrcIrq.{VrcIrq}
@@ -31,8 +30,7 @@ heldBy b f c = record { board = b; fixed = f; changing = c }
 -- what creation is given (01, The board's calls 1)
 pub record Creation : Type 0 where
   pub layout : MemoryLayout
-  pub mirroring : Mirroring
-  pub revision : Revision
+  pub settings : Settings
   pub fixed : List ℕ
   pub changing : List ℕ
 
@@ -49,8 +47,8 @@ paged l b q a =
     }
 
 -- a new board: all eleven registers 0, interrupt all 0, sound as `Audio::new` (01, Banks and decode 2)
-abbrev pub newBoard : MemoryLayout → Mirroring → Revision → Board
-newBoard l m r = paged l (firstBanking m r) irqZero (audioAt 1)
+abbrev pub newBoard : MemoryLayout → Settings → Board
+newBoard l s = paged l (firstBanking s) irqZero (audioAt 1)
 
 -- the all-zero board that a refused create returns (01, The board's calls 3; 01, The board's calls 4)
 abbrev pub zeroBoard : Board
@@ -62,6 +60,18 @@ zeroBoard =
       banking = zeroBanking;
       irq = irqZero;
       audio = audioAt 0;
+    }
+
+-- a board with other banking values, and the entries that follow from them (01, Banks and decode 2)
+abbrev pub withBanking : Board → Banking → Board
+withBanking b k =
+    record {
+      layout = b .layout;
+      «prg_pages» = cpuEntries (b .layout) k;
+      «chr_pages» = pictureEntries (b .layout) k;
+      banking = k;
+      irq = b .irq;
+      audio = b .audio;
     }
 
 -- a board with another interrupt and another sound

@@ -20,7 +20,7 @@ use Rattle.vrc6.specs.declared.board.Written.{Written}
 use Rattle.vrc6.specs.declared.board.Clocked.{Clocked}
 use Rattle.vrc6.specs.declared.board.Leveled.{Leveled}
 use Rattle.vrc6.specs.declared.board.Forecasted.{Forecasted}
-use Rattle.vrc6.specs.Boards.{State, heldBy, Creation, paged, newBoard, zeroBoard, withEngine, entryOf}
+use Rattle.vrc6.specs.Boards.{State, heldBy, Creation, newBoard, zeroBoard, withBanking, withEngine, entryOf}
 use Rattle.vrc6.specs.Checks.{createRefusal, memoryRefusal, cpuWriteRefusal}
 
 -- ---- create
@@ -28,7 +28,7 @@ use Rattle.vrc6.specs.Checks.{createRefusal, memoryRefusal, cpuWriteRefu
 abbrev pub create : Creation → Created
 create c =
     record {
-      board = unless (createRefusal c) (newBoard (c .layout) (c .mirroring) (c .revision)) zeroBoard;
+      board = unless (createRefusal c) (newBoard (c .layout) (c .settings)) zeroBoard;
       refusal = createRefusal c;
     }
 
@@ -43,7 +43,7 @@ byteRead s x address =
 -- a register takes a byte; after a bank write all entries are rebuilt (01, Banks and decode 2)
 abbrev pub registerWritten : Register → (v : ℕ) → Board → Board
 registerWritten Nothing v b = b
-registerWritten (OfBank r) v b = paged (b .layout) (bankWritten r v (b .banking)) (b .irq) (b .audio)
+registerWritten (OfBank r) v b = withBanking b (bankWritten r v (b .banking))
 registerWritten (OfAudio r) v b = withEngine b (b .irq) (audioWritten r v (b .audio))
 registerWritten (OfIrq r) v b = withEngine b (irqWritten r v (b .irq)) (b .audio)
 

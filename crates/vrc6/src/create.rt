@@ -6,8 +6,7 @@ use irq::VrcIrq;
 use memory_layout::MemoryLayout;
 use memory_layout::Page;
 use vrc6_banking::banking::Banking;
-use vrc6_banking::banking::Mirroring;
-use vrc6_banking::banking::Revision;
+use vrc6_banking::banking::Settings;
 use vrc6_tables::chr_pages;
 use vrc6_tables::prg_pages;
 ghost use mathlib.Core.Path.{_≡_};
@@ -69,11 +68,11 @@ impl Board {
     }
 
     // A new board: registers and interrupt 0, sound as new, the nametables of the mirroring given.
-    fn new(layout: MemoryLayout, mirroring: Mirroring, revision: Revision) -> Board
+    fn new(layout: MemoryLayout, settings: Settings) -> Board
         requires { ⌜ Limits layout ⌝ }
-        ensures { λ r. ⌜ r ≡ newBoard layout mirroring revision ⌝ }
+        ensures { λ r. ⌜ r ≡ newBoard layout settings ⌝ }
     {
-        let banking = Banking::new(mirroring, revision);
+        let banking = Banking::new(settings);
         Board {
             layout,
             prg_pages: prg_pages(layout, banking),
@@ -86,12 +85,11 @@ impl Board {
 
     pub fn create(
         layout: MemoryLayout,
-        mirroring: Mirroring,
-        revision: Revision,
+        settings: Settings,
         fixed: &[u8],
         changing: &[u8],
     ) -> Created
-        ensures { λ r. ⌜ r ≡ create (record { layout = layout; mirroring = mirroring; revision = revision; fixed = now (fixed .entry); changing = now (changing .entry) }) ⌝ }
+        ensures { λ r. ⌜ r ≡ create (record { layout = layout; settings = settings; fixed = now (fixed .entry); changing = now (changing .entry) }) ⌝ }
     {
         let refusal = create_refusal(layout, fixed, changing);
         if refusal != 0 {
@@ -101,7 +99,7 @@ impl Board {
             };
         }
         Created {
-            board: Board::new(layout, mirroring, revision),
+            board: Board::new(layout, settings),
             refusal,
         }
     }

@@ -13,7 +13,7 @@ use Rattle.registers.specs.declared.BankRegister.the-variants.{Prg16, Prg8, Mod
 use Rattle.vrc6_banking.specs.declared.banking.Banking.{Banking}
 use Rattle.vrc6_slots.specs.declared.Mirroring.{Mirroring}
 use Rattle.vrc6_slots.specs.declared.Mirroring.the-variants.{Vertical, Horizontal, SingleScreenA, SingleScreenB, FourScreen}
-use Rattle.vrc6_banking.specs.declared.banking.Revision.{Revision}
+use Rattle.vrc6_banking.specs.declared.banking.Settings.{Settings}
 use Rattle.vrc6_slots.specs.Nametables.{nametableMirroring}
 use Rattle.vrc6_banking.specs.Banking.{bankWritten, firstBanking, mirroringNumber, renamed, repaged}
 use Rattle.vrc6_banking.specs.Laws.{WellFormed, WrittenLaw}
@@ -26,8 +26,8 @@ number-low SingleScreenA = refl
 number-low SingleScreenB = refl
 number-low FourScreen = refl
 
-first : (m : Mirroring) (r : Revision) → WellFormed (firstBanking m r)
-first m r = record { in-range = number-low m; prgs = refl; chrs = refl; names = mirroring-count m }
+first : (s : Settings) → WellFormed (firstBanking s)
+first s = record { in-range = number-low (s .mirroring); prgs = refl; chrs = refl; names = mirroring-count (s .mirroring) }
 
 module _ (b : Banking) (w : WellFormed b) where
   -- both PRG numbers are in range

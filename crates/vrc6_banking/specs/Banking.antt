@@ -11,6 +11,7 @@ use Rattle.vrc6_slots.specs.declared.Mirroring.{Mirroring}
 use Rattle.vrc6_slots.specs.declared.Mirroring.the-variants.{Vertical, Horizontal, SingleScreenA, SingleScreenB, FourScreen}
 use Rattle.vrc6_banking.specs.declared.banking.Revision.{Revision}
 use Rattle.vrc6_banking.specs.declared.banking.Revision.the-variants.{A, B}
+use Rattle.vrc6_banking.specs.declared.banking.Settings.{Settings}
 use Rattle.vrc6_slots.specs.Nametables.{mirroringNumbers, nametableNumbers, nametableMirroring}
 
 -- a mirroring's number (ppu.rs, Mirroring)
@@ -26,16 +27,20 @@ abbrev pub isB : Revision → Bool
 isB A = false
 isB B = true
 
+-- the settings of creation that have a mirroring and a revision (01, The board's calls 1)
+abbrev pub settingsOf : Mirroring → Revision → Settings
+settingsOf m r = record { mirroring = m; revision = r }
+
 -- at creation: all registers 0, the mirroring given and its numbers (01, Banks and decode 2; 01, Banks and decode 6)
-abbrev pub firstBanking : Mirroring → Revision → Banking
-firstBanking m r =
+abbrev pub firstBanking : Settings → Banking
+firstBanking s =
     record {
       «banking_mode» = 0;
       «prg_banks» = replicate 2 0;
       chr = replicate 8 0;
-      mirroring = mirroringNumber m;
-      «nt_banks» = mirroringNumbers m;
-      «revision_b» = isB r;
+      mirroring = mirroringNumber (s .mirroring);
+      «nt_banks» = mirroringNumbers (s .mirroring);
+      «revision_b» = isB (s .revision);
     }
 
 -- every value 0: Vertical, revision A, and unlike Vertical's the nametable numbers 0 0 0 0 (01, The board's calls 4)

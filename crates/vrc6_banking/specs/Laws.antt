@@ -5,8 +5,7 @@ use Prim.Native.Nat.{ℕ}
 use lib.ListN.{length}
 use Rattle.registers.specs.declared.BankRegister.{BankRegister}
 use Rattle.vrc6_banking.specs.declared.banking.Banking.{Banking}
-use Rattle.vrc6_slots.specs.declared.Mirroring.{Mirroring}
-use Rattle.vrc6_banking.specs.declared.banking.Revision.{Revision}
+use Rattle.vrc6_banking.specs.declared.banking.Settings.{Settings}
 use Rattle.vrc6_banking.specs.Banking.{firstBanking, bankWritten, bankingInRange}
 
 -- banking values as the machine holds them: in range, two PRG numbers, eight CHR registers, four nametable numbers (01, Records 4)
@@ -18,6 +17,6 @@ pub record WellFormed (b : Banking) : Type 0 where
 
 -- creation gives such values, and a bank write keeps them so; the revision never changes
 pub record WrittenLaw : Type 0 where
-  pub first : (m : Mirroring) (r : Revision) → WellFormed (firstBanking m r)
+  pub first : (s : Settings) → WellFormed (firstBanking s)
   pub written : (k : BankRegister) (v : ℕ) (b : Banking) → WellFormed b → WellFormed (bankWritten k v b)
   pub revision : (k : BankRegister) (v : ℕ) (b : Banking) → bankWritten k v b .«revision_b» ≡ b .«revision_b»

@@ -6,13 +6,30 @@ use vrc6_slots::nametables::nametable_mirroring;
 use vrc6_slots::nametables::nametable_numbers;
 ghost use mathlib.Core.Path.{_≡_};
 ghost use Rattle.vrc6_slots.specs.Chr.{chrSlots};
-ghost use Rattle.vrc6_banking.specs.Banking.{bankWritten, bankingInRange, firstBanking, isB, mirroringNumber, renamed, zeroBanking};
+ghost use Rattle.vrc6_banking.specs.Banking.{bankWritten, bankingInRange, firstBanking, isB, mirroringNumber, renamed, settingsOf, zeroBanking};
 pub use vrc6_slots::Mirroring;
 
 // Revision B exchanges address lines 0 and 1.
 pub enum Revision {
     A,
     B,
+}
+
+// What a board is made with, beside its memory.
+pub struct Settings {
+    pub mirroring: Mirroring,
+    pub revision: Revision,
+}
+
+impl Settings {
+    pub fn new(mirroring: Mirroring, revision: Revision) -> Self
+        ensures { λ r. ⌜ r ≡ settingsOf mirroring revision ⌝ }
+    {
+        Self {
+            mirroring,
+            revision,
+        }
+    }
 }
 
 #[repr(C)]
@@ -52,9 +69,11 @@ fn is_b(revision: Revision) -> bool
 
 impl Banking {
     // At creation every register is 0, and the nametables are those of the mirroring given.
-    pub fn new(mirroring: Mirroring, revision: Revision) -> Self
-        ensures { λ r. ⌜ r ≡ firstBanking mirroring revision ⌝ }
+    pub fn new(settings: Settings) -> Self
+        ensures { λ r. ⌜ r ≡ firstBanking settings ⌝ }
     {
+        let mirroring = settings.mirroring;
+        let revision = settings.revision;
         Self {
             banking_mode: 0,
             prg_banks: [0, 0],

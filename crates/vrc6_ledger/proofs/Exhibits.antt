@@ -13,13 +13,14 @@ use Rattle.memory_layout.specs.declared.regions.MemoryLayout.{MemoryLayout}
 use Rattle.memory_layout.specs.Layout.{withinLimits, fixedLength, changingLength}
 use Rattle.registers.specs.Decode.{decode}
 use Rattle.vrc6_slots.specs.declared.Mirroring.{Mirroring}
+use Rattle.vrc6_banking.specs.declared.banking.Settings.{Settings}
 use Rattle.vrc6_banking.specs.declared.banking.Revision.{Revision}
 use Rattle.vrc6_banking.specs.declared.banking.Revision.the-variants.{A, B}
 use Rattle.vrc6_slots.specs.Chr.{chrSlots}
 use Rattle.vrc6_tables.specs.Tables.{pictureEntries}
 use Rattle.vrc6_calls.specs.declared.Call.the-variants.{Clock}
 use Rattle.vrc6.specs.Checks.{allZero, createRefusal}
-use Rattle.vrc6_ledger.specs.Ledger.{Origin, event, ledgerOf}
+use Rattle.vrc6_ledger.specs.Ledger.{event, ledgerOf}
 use Rattle.vrc6_ledger.specs.Refused.{createChecks}
 use Rattle.vrc6_ledger.specs.Demand3.{Quiet, CountsLines, Stretch, stretchTicks}
 use Rattle.vrc6_ledger.specs.Exhibited.{zeros, oneLine, ExhibitedLaw, StoredExample}
@@ -40,7 +41,7 @@ zeros-accepted l h m r =
     sized n = eq-eqb (length {A = ℕ} (replicate n 0)) n (length-replicate n 0)
 
 -- clocks are quiet
-quiet : (o : Origin) (n : ℕ) → Each (λ k. Quiet o (event k)) (replicate n Clock)
+quiet : (o : Settings) (n : ℕ) → Each (λ k. Quiet o (event k)) (replicate n Clock)
 quiet o zero = tt
 quiet o (suc n) = (tt, quiet o n)
 

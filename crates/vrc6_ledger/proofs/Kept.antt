@@ -22,9 +22,11 @@ use Rattle.registers.specs.declared.IrqRegister.the-variants.{Reload, Control, 
 use Rattle.registers.specs.Decode.{decode}
 use Rattle.vrc6_slots.specs.declared.Mirroring.{Mirroring}
 use Rattle.vrc6_slots.specs.declared.Mirroring.the-variants.{Vertical, Horizontal, SingleScreenA, SingleScreenB, FourScreen}
+use Rattle.vrc6_banking.specs.declared.banking.Settings.{Settings}
 use Rattle.vrc6_banking.specs.Banking.{isB, mirroringNumber, bankingInRange}
 use Rattle.vrc6_slots.specs.Nametables.{nametableMirroring}
 use Rattle.vrc6_tables.proofs.Entries.{entries-law}
+use Rattle.irq.specs.declared.VrcIrq.{VrcIrq}
 use Rattle.irq.specs.Timing.{lineStep, lineLength}
 use Rattle.irq.proofs.Board.{pace}
 use Rattle.registers.specs.declared.AudioRegister.{AudioRegister}
@@ -36,11 +38,11 @@ use Rattle.audio.proofs.Kept.{kept-law, sum-law}
 use Rattle.vrc6_calls.specs.Lists.{Shape, reads, writes, views, asks}
 use Rattle.vrc6.specs.Boards.{Creation, entryOf}
 use Rattle.vrc6.specs.Checks.{createRefusal, engineInRange, memoryRefusal, registerChecks}
-use Rattle.vrc6_ledger.specs.Ledger.{Ledger, Origin, Registers, Timing, Event, cpuWrites, pictureWrites, clocks, resets, looks, noted, opening, byteOf, settled, bankingBy, bankingOf, entries, registersAfter, timingAfter, timingClocked, copied}
+use Rattle.vrc6_ledger.specs.Ledger.{Ledger, Registers, Timing, Event, cpuWrites, pictureWrites, clocks, resets, looks, noted, opening, byteOf, settled, bankingBy, bankingOf, entries, registersAfter, timingAfter, timingClocked, copied}
 use Rattle.vrc6_ledger.specs.Demand3.{WholeSum}
 use Rattle.vrc6_ledger.specs.Refused.{memoryChecks, createChecks}
 use Rattle.vrc6_ledger.proofs.Ticks.{same-fall}
-use Rattle.vrc6_ledger.proofs.Shown.{Count, shown, refusalBy, audioNext, or-true}
+use Rattle.vrc6_ledger.proofs.Shown.{shown, refusalBy, audioNext, or-true}
 
 -- ---- what an accepted creation says
 pub record Accepted (c : Creation) : Type 0 where
@@ -101,7 +103,7 @@ mirrored SingleScreenB = refl
 mirrored FourScreen = refl
 
 -- the banking values that a ledger shows are in range
-pub banks : (o : Origin) (g : Registers) → bankingInRange (bankingBy o g) ≡ true
+pub banks : (o : Settings) (g : Registers) → bankingInRange (bankingBy o g) ≡ true
 banks o g =
     let first : leb (byteOf (g .prg16) % 16) 15 ≡ true = omega (arith, le-leb) in
     let second : leb (byteOf (g .prg8) % 32) 31 ≡ true = omega (arith, le-leb) in
@@ -146,7 +148,7 @@ module _ (c : Creation) (ok : Accepted c) where
   first-kept = record { eight = refl; copy = ok .changing; prescaler = omega arith; audio = first-sounds }
 
   -- ---- no refusal
-  module _ (l : Ledger) (r : Count) (x : Audio) (k : Kept c l x) where
+  module _ (l : Ledger) (r : VrcIrq) (x : Audio) (k : Kept c l x) where
     fits : lengthsFit (c .layout) (length (c .fixed)) (length (l .copy)) ≡ true
     fits = both (ok .fixed) (eq-eqb (length (l .copy)) (changingLength (c .layout)) (k .copy))
 

@@ -18,10 +18,11 @@ use Rattle.registers.specs.declared.Register.the-variants.{Nothing, OfBank, OfA
 use Rattle.registers.specs.declared.BankRegister.{BankRegister}
 use Rattle.registers.specs.declared.BankRegister.the-variants.{Prg16, Prg8, Mode, Chr}
 use Rattle.registers.specs.Decode.{decode}
+use Rattle.vrc6_banking.specs.declared.banking.Settings.{Settings}
 use Rattle.vrc6_banking.specs.Banking.{isB}
 use Rattle.vrc6_calls.specs.declared.Call.{Call}
 use Rattle.vrc6.specs.Boards.{Creation}
-use Rattle.vrc6_ledger.specs.Ledger.{Ledger, Origin, Registers, Event, cpuWrites, pictureWrites, clocks, resets, looks, event, noted, opening, entries, ledger, copiedAt, taken, registersAfter}
+use Rattle.vrc6_ledger.specs.Ledger.{Ledger, Registers, Event, cpuWrites, pictureWrites, clocks, resets, looks, event, noted, opening, entries, ledger, copiedAt, taken, registersAfter}
 use Rattle.vrc6_ledger.specs.Last.{orElse, byteOr, Eleven, same, lastHeld, givenTo, writtenTo, lastTo, storedThrough, storedBy, lastAt, RegistersLaw, OriginLaw, CopyLaw}
 use Rattle.vrc6_ledger.proofs.Kept.{kept-eight, kept-length}
 
@@ -111,9 +112,9 @@ module _ (c : Creation) where
   all-held [] l eight n h = refl
   all-held (k ∷ ks) l eight n h =
       let e = event k in
-      let later : Origin → Option ℕ = λ o. lastTo (o .revision) n ks in
+      let later : Settings → Option ℕ = λ o. lastTo (o .revision) n ks in
       all-held ks (noted c l e) (noted-eight l e ∙ eight) n h
-      ∙ ap (λ (o : Origin). orElse (later o) (lastHeld (noted c l e .registers) n)) (noted-origin l e)
+      ∙ ap (λ (o : Settings). orElse (later o) (lastHeld (noted c l e .registers) n)) (noted-origin l e)
       ∙ ap (orElse (later (l .origin))) (noted-held l eight e n h)
       ∙ or-or (later (l .origin)) (writtenTo (l .origin .revision) n e) (lastHeld (l .registers) n)
 
@@ -176,7 +177,7 @@ empty c (Chr i) = none-at 8 i
 
 pub registers-law : RegistersLaw
 registers-law c ks n h =
-    all-held c ks (opening c) refl n h ∙ ap (orElse (lastTo (c .revision) n ks)) (empty c n) ∙ or-none (lastTo (c .revision) n ks)
+    all-held c ks (opening c) refl n h ∙ ap (orElse (lastTo (c .settings .revision) n ks)) (empty c n) ∙ or-none (lastTo (c .settings .revision) n ks)
 
 pub origin-law : OriginLaw
 origin-law c ks = all-origin c ks (opening c)

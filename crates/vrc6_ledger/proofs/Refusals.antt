@@ -44,7 +44,7 @@ pub refused-law : RefusedLaw
 refused-law x k h = given-back x (shape k) (λ z. h (answered x (shape k) ∙ z))
 
 pub refused-create-law : RefusedCreateLaw
-refused-create-law c h = not-done (createRefusal c) (newBoard (c .layout) (c .mirroring) (c .revision)) zeroBoard h
+refused-create-law c h = not-done (createRefusal c) (newBoard (c .layout) (c .settings)) zeroBoard h
 
 -- ---- the order of the numbers
 -- every check has a number of its own, whatever the checks themselves say

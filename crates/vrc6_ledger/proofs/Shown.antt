@@ -18,6 +18,7 @@ use Rattle.registers.specs.declared.BankRegister.the-variants.{Prg16, Prg8, Mod
 use Rattle.registers.specs.declared.IrqRegister.the-variants.{Reload, Control, Acknowledge}
 use Rattle.registers.specs.Decode.{decode}
 use Rattle.registers.proofs.Chr.{chr-law}
+use Rattle.vrc6_banking.specs.declared.banking.Settings.{Settings}
 use Rattle.vrc6_banking.specs.Banking.{bankWritten, isB}
 use Rattle.irq.specs.declared.VrcIrq.{VrcIrq}
 use Rattle.irq.specs.Interrupt.{irqZero}
@@ -31,7 +32,7 @@ use Rattle.vrc6.specs.Boards.{State, heldBy, Creation, paged, withEngine}
 use Rattle.vrc6.specs.Checks.{memoryRefusal, cpuWriteRefusal}
 use Rattle.vrc6.specs.Calls.{registerWritten, cpuWritten, pictureWritten, clocked}
 use Rattle.vrc6_calls.specs.Lists.{Shape, reads, writes, views, asks, shape, givenBy, refusalIn, ticksIn, nextBy, next}
-use Rattle.vrc6_ledger.specs.Ledger.{Ledger, Origin, Registers, Timing, Event, cpuWrites, pictureWrites, clocks, resets, looks, eventBy, event, noted, byteOf, has, anyHas, bankingBy, taken, registersAfter, timingAfter, timingClocked, copied}
+use Rattle.vrc6_ledger.specs.Ledger.{Ledger, Registers, Timing, Event, cpuWrites, pictureWrites, clocks, resets, looks, eventBy, event, noted, byteOf, has, anyHas, bankingBy, taken, registersAfter, timingAfter, timingClocked, copied}
 use Rattle.vrc6_ledger.specs.Refused.{checksBy}
 use Rattle.vrc6_ledger.specs.Played.{done}
 use Rattle.vrc6_ledger.specs.Foreseen.{ticksNoted}
@@ -39,45 +40,37 @@ use Rattle.vrc6_ledger.specs.Demand3.{timingOf}
 use Rattle.vrc6_ledger.proofs.Ticks.{same-fall}
 use Rattle.vrc6_ledger.proofs.Asks.{ask-law}
 
--- ---- a state from a ledger, and from what the ledger does not hold: three interrupt values and the sound
-pub record Count : Type 0 where
-  pub reload : ℕ
-  pub counter : ℕ
-  pub pending : Bool
-
-abbrev pub irqOf : Timing → Count → VrcIrq
-irqOf t r =
+-- ---- a state from a ledger, and from what the ledger does not hold: an interrupt, of which all but the ledger's four values count, and the sound
+abbrev pub irqOf : Timing → VrcIrq → VrcIrq
+irqOf t q =
     record {
-      reload = r .reload;
-      counter = r .counter;
+      reload = q .reload;
+      counter = q .counter;
       «prescalar_counter» = t .prescaler;
-      «irq_pending» = r .pending;
+      «irq_pending» = q .«irq_pending»;
       enabled = t .enabled;
       «enabled_after_ack» = t .after-acknowledge;
       «cycle_mode» = t .cycle;
     }
 
-abbrev pub countOf : VrcIrq → Count
-countOf q = record { reload = q .reload; counter = q .counter; pending = q .«irq_pending» }
-
-abbrev pub boardOf : Creation → Origin → Registers → Timing → Count → Audio → Board
+abbrev pub boardOf : Creation → Settings → Registers → Timing → VrcIrq → Audio → Board
 boardOf c o g t r a = paged (c .layout) (bankingBy o g) (irqOf t r) a
 
-abbrev pub shown : Creation → Ledger → Count → Audio → State
+abbrev pub shown : Creation → Ledger → VrcIrq → Audio → State
 shown c l r a = heldBy (boardOf c (l .origin) (l .registers) (l .timing) r a) (c .fixed) (l .copy)
 
 -- ---- interrupt and sound after a call
-abbrev irqNext : Origin → VrcIrq → Event → VrcIrq
+abbrev irqNext : Settings → VrcIrq → Event → VrcIrq
 irqNext o q (cpuWrites a v) = irqWrittenTo (decode (isB (o .revision)) a) v q
 irqNext o q (pictureWrites a v) = q
 irqNext o q (clocks n) = times n (λ p. clockAnswer p .irq) q
 irqNext o q resets = irqZero
 irqNext o q looks = q
 
-abbrev pub countNext : Ledger → Count → Event → Count
-countNext l r e = countOf (irqNext (l .origin) (irqOf (l .timing) r) e)
+abbrev pub irqAfter : Ledger → VrcIrq → Event → VrcIrq
+irqAfter l r e = irqNext (l .origin) (irqOf (l .timing) r) e
 
-abbrev pub audioNext : Origin → Audio → Event → Audio
+abbrev pub audioNext : Settings → Audio → Event → Audio
 audioNext o x (cpuWrites a v) = audioWrittenTo (decode (isB (o .revision)) a) v x
 audioNext o x (pictureWrites a v) = x
 audioNext o x (clocks n) = times n audioClocked x
@@ -103,7 +96,7 @@ any-set (o ∷ os) (suc i) v h = rw (any-set os i v (le-of-suc-le-suc h)) (or-tr
 abbrev pub Known : Register → Type 0
 Known k = (i : ℕ) → k ≡ OfBank (Chr i) → i < 8
 
-module _ (c : Creation) (o : Origin) (g : Registers) (eight : length (g .chr) ≡ 8) where
+module _ (c : Creation) (o : Settings) (g : Registers) (eight : length (g .chr) ≡ 8) where
   banked : (b : BankRegister) (v : ℕ) → Known (OfBank b) → bankWritten b v (bankingBy o g) ≡ bankingBy o (taken b v g)
   banked Prg16 v h = refl
   banked Prg8 v h = refl
@@ -114,9 +107,9 @@ module _ (c : Creation) (o : Origin) (g : Registers) (eight : length (g .chr) �
       let same : i % 8 ≡ i = mod-eq-of-lt low in
       simp (same, map-set, any-set (g .chr) i v inside, or-true)
 
-  written : (k : Register) (v : ℕ) (t : Timing) (r : Count) (a : Audio) → Known k
+  written : (k : Register) (v : ℕ) (t : Timing) (r : VrcIrq) (a : Audio) → Known k
       → registerWritten k v (boardOf c o g t r a)
-      ≡ boardOf c o (registersAfter k v g) (timingAfter k v t) (countOf (irqWrittenTo k v (irqOf t r))) (audioWrittenTo k v a)
+      ≡ boardOf c o (registersAfter k v g) (timingAfter k v t) (irqWrittenTo k v (irqOf t r)) (audioWrittenTo k v a)
   written Nothing v t r a h = refl
   written (OfBank b) v t r a h = rw (banked b v h)
   written (OfAudio s) v t r a h = refl
@@ -138,8 +131,8 @@ clocked-timing : (n : ℕ) (q : VrcIrq) → timingOf (times n (λ p. clockAnswer
 clocked-timing n q = carried (λ p. clockAnswer p .irq) timingClocked timingOf (λ p. rw (same-fall (p .«prescalar_counter»))) q n
 
 -- ---- every call, where it is not refused
-pub led : (c : Creation) (l : Ledger) (r : Count) (x : Audio) (e : Event) → length (l .registers .chr) ≡ 8
-    → done (shown c l r x) e ≡ shown c (noted c l e) (countNext l r e) (audioNext (l .origin) x e)
+pub led : (c : Creation) (l : Ledger) (r : VrcIrq) (x : Audio) (e : Event) → length (l .registers .chr) ≡ 8
+    → done (shown c l r x) e ≡ shown c (noted c l e) (irqAfter l r e) (audioNext (l .origin) x e)
 led c l r x (cpuWrites a v) e =
     ap (λ (b : Board). heldBy b (c .fixed) (copied cpu c l a v))
     (written c (l .origin) (l .registers) e (decode (isB (l .origin .revision)) a) v (l .timing) r x (chr-law (isB (l .origin .revision)) a))
@@ -147,7 +140,7 @@ led c l r x (pictureWrites a v) e = refl
 led c l r x (clocks n) e =
     let q = times n (λ p. clockAnswer p .irq) (irqOf (l .timing) r) in
     ap (λ (b : Board). heldBy b (c .fixed) (l .copy)) (clocked-board n (boardOf c (l .origin) (l .registers) (l .timing) r x))
-    ∙ ap (λ (t : Timing). heldBy (boardOf c (l .origin) (l .registers) t (countOf q) (times n audioClocked x)) (c .fixed) (l .copy))
+    ∙ ap (λ (t : Timing). heldBy (boardOf c (l .origin) (l .registers) t q (times n audioClocked x)) (c .fixed) (l .copy))
     (clocked-timing n (irqOf (l .timing) r))
 led c l r x resets e = refl
 led c l r x looks e = refl
@@ -181,9 +174,9 @@ answered x (writes picture a v) = refl
 answered x (views a) = refl
 answered x (asks q) = ask-law q .number (x .board)
 
-module _ (c : Creation) (l : Ledger) (r : Count) (x : Audio) where
+module _ (c : Creation) (l : Ledger) (r : VrcIrq) (x : Audio) where
   pub stepped : (k : Call) → length (l .registers .chr) ≡ 8 → refusalOf (shown c l r x) k ≡ 0
-      → next (shown c l r x) k ≡ shown c (noted c l (event k)) (countNext l r (event k)) (audioNext (l .origin) x (event k))
+      → next (shown c l r x) k ≡ shown c (noted c l (event k)) (irqAfter l r (event k)) (audioNext (l .origin) x (event k))
   stepped k e h = next-done (shown c l r x) k h ∙ led c l r x (event k) e
 
   pub ticked : (s : Shape) → refusalBy (shown c l r x) s ≡ 0 → ticksIn (givenBy (shown c l r x) s) ≡ ticksNoted (l .timing) (eventBy s)

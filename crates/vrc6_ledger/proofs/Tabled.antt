@@ -9,15 +9,17 @@ use Rattle.base_shared.proofs.Tests.{either}
 use Rattle.memory_layout.specs.Pages.{unmapped}
 use Rattle.memory_layout.specs.Entries.{entryInRange}
 use Rattle.memory_tables.specs.Paging.{Side, cpu, picture, entryCount}
+use Rattle.vrc6_banking.specs.declared.banking.Settings.{Settings}
 use Rattle.vrc6_banking.specs.Laws.{WellFormed}
 use Rattle.vrc6_slots.proofs.Counts.{mirroring-count, numbers-count}
 use Rattle.vrc6_tables.proofs.Counts.{count-law, repeat-law}
 use Rattle.vrc6_tables.proofs.Entries.{entries-law}
+use Rattle.irq.specs.declared.VrcIrq.{VrcIrq}
 use Rattle.audio.specs.declared.Audio.{Audio}
 use Rattle.vrc6.specs.Boards.{State, Creation, table}
-use Rattle.vrc6_ledger.specs.Ledger.{Origin, Registers, Timing, byteOf, settled, bankingBy, ledgerOf}
+use Rattle.vrc6_ledger.specs.Ledger.{Registers, Timing, byteOf, settled, bankingBy, ledgerOf}
 use Rattle.vrc6_ledger.specs.Laws.{Tables, TablesLaw}
-use Rattle.vrc6_ledger.proofs.Shown.{Count, boardOf}
+use Rattle.vrc6_ledger.proofs.Shown.{boardOf}
 use Rattle.vrc6_ledger.proofs.Kept.{Accepted, accepted, banks}
 use Rattle.vrc6_ledger.proofs.Whole.{whole}
 
@@ -26,7 +28,7 @@ count-bytes [] = refl
 count-bytes (o ∷ os) = ap suc (count-bytes os)
 
 -- the banking values of eight CHR registers
-well-formed : (o : Origin) (g : Registers) → length (g .chr) ≡ 8 → WellFormed (bankingBy o g)
+well-formed : (o : Settings) (g : Registers) → length (g .chr) ≡ 8 → WellFormed (bankingBy o g)
 well-formed o g eight =
     record {
       in-range = banks o g;
@@ -37,7 +39,7 @@ well-formed o g eight =
     }
 
 -- a board that a ledger shows
-tables : (c : Creation) (ok : Accepted c) (o : Origin) (g : Registers) (t : Timing) (r : Count) (a : Audio) → WellFormed (bankingBy o g)
+tables : (c : Creation) (ok : Accepted c) (o : Settings) (g : Registers) (t : Timing) (r : VrcIrq) (a : Audio) → WellFormed (bankingBy o g)
     → Tables (boardOf c o g t r a)
 tables c ok o g t r a w =
     record { counts = counts; in-range = in-range; repeats = repeat-law (c .layout) (bankingBy o g) w }
@@ -55,4 +57,4 @@ tables-law c h ks =
     let w = whole c h ks in
     let l = ledgerOf c ks in
     subst (λ (x : State). Tables (x .board)) (sym (w .state))
-    (tables c (accepted c h) (l .origin) (l .registers) (l .timing) (w .count) (w .audio) (well-formed (l .origin) (l .registers) (w .lasts .eight)))
+    (tables c (accepted c h) (l .origin) (l .registers) (l .timing) (w .irq) (w .audio) (well-formed (l .origin) (l .registers) (w .lasts .eight)))

@@ -14,13 +14,14 @@ use Rattle.registers.specs.declared.Register.{Register}
 use Rattle.registers.specs.declared.Register.the-variants.{Nothing, OfBank, OfAudio, OfIrq}
 use Rattle.registers.specs.declared.IrqRegister.the-variants.{Reload, Control, Acknowledge}
 use Rattle.registers.specs.Decode.{decode}
+use Rattle.vrc6_banking.specs.declared.banking.Settings.{Settings}
 use Rattle.vrc6_banking.specs.Banking.{isB}
 use Rattle.irq.specs.Timing.{lineStep, lineLength}
 use Rattle.irq.proofs.Board.{pace}
 use Rattle.vrc6_calls.specs.declared.Call.{Call}
 use Rattle.vrc6.specs.Boards.{Creation}
 use Rattle.vrc6_calls.specs.Lists.{Given, ticksIn}
-use Rattle.vrc6_ledger.specs.Ledger.{Ledger, Origin, Timing, Event, cpuWrites, pictureWrites, clocks, resets, looks, event, ledger, noted, timingAfter, timingClocked, notedFallen}
+use Rattle.vrc6_ledger.specs.Ledger.{Ledger, Timing, Event, cpuWrites, pictureWrites, clocks, resets, looks, event, ledger, noted, timingAfter, timingClocked, notedFallen}
 use Rattle.vrc6_ledger.specs.Foreseen.{clockTicks, ticksNoted, foreseen}
 use Rattle.vrc6_ledger.specs.Demand3.{part, weight, clockCount, tickCount, QuietRegister, Quiet, CountsLines, stretchTicks}
 
@@ -110,7 +111,7 @@ module _ (c : Creation) where
       let p = l .timing .prescaler in
       let w = weighed e l (q .0) h in
       let low : 1 ≤ noted c l e .timing .prescaler = rw (w .rest) (fall-range-law lineStep lineLength pace p (weight e) .above (h .low)) in
-      let quiet = subst (λ (o : Origin). Each (λ j. Quiet o (event j)) ks) (made e l (q .0)) (q .1) in
+      let quiet = subst (λ (o : Settings). Each (λ j. Quiet o (event j)) ks) (made e l (q .0)) (q .1) in
       let more = counted ks (noted c l e) quiet (record { enabled = w .enabled; lines = w .lines; low = low }) in
       let added = add-law lineStep lineLength p (weight e) (clockCount ks) .counted in
       let behind = ap (λ (n : ℕ). runs lineStep lineLength n (clockCount ks)) (w .rest) in

@@ -13,13 +13,14 @@ use Rattle.registers.specs.declared.Register.{Register}
 use Rattle.registers.specs.declared.Register.the-variants.{Nothing, OfBank, OfAudio, OfIrq}
 use Rattle.registers.specs.declared.IrqRegister.the-variants.{Reload, Control, Acknowledge}
 use Rattle.registers.specs.Decode.{decode}
+use Rattle.vrc6_banking.specs.declared.banking.Settings.{Settings}
 use Rattle.vrc6_banking.specs.Banking.{isB}
 use Rattle.irq.specs.declared.VrcIrq.{VrcIrq}
 use Rattle.vrc6_calls.specs.declared.Call.{Call}
 use Rattle.vrc6.specs.Boards.{State, heldBy, Creation, table}
 use Rattle.vrc6.specs.Calls.{create}
 use Rattle.vrc6_calls.specs.Lists.{Given, refusalIn, ticksIn, after, answers}
-use Rattle.vrc6_ledger.specs.Ledger.{Origin, Timing, Event, cpuWrites, pictureWrites, clocks, resets, looks, event, ledgerOf, bankingOf, entries}
+use Rattle.vrc6_ledger.specs.Ledger.{Timing, Event, cpuWrites, pictureWrites, clocks, resets, looks, event, ledgerOf, bankingOf, entries}
 
 -- n neighbours, from the i-th on
 abbrev pub part : {A : Type 0} → (i n : ℕ) → List A → List A
@@ -54,7 +55,7 @@ QuietRegister (OfIrq Control) = ⊥
 QuietRegister (OfIrq Acknowledge) = ⊥
 
 -- a call that is no control, acknowledge or reset (01, Demand 3's lists and their ledger 7)
-abbrev pub Quiet : Origin → Event → Type 0
+abbrev pub Quiet : Settings → Event → Type 0
 Quiet o (cpuWrites a v) = QuietRegister (decode (isB (o .revision)) a)
 Quiet o (pictureWrites a v) = Unit {0}
 Quiet o (clocks n) = Unit {0}

@@ -11,6 +11,7 @@ use Rattle.vrc6_slots.specs.declared.Mirroring.{Mirroring}
 use Rattle.vrc6_slots.specs.declared.Mirroring.the-variants.{Vertical}
 use Rattle.vrc6_banking.specs.declared.banking.Revision.{Revision}
 use Rattle.vrc6_banking.specs.declared.banking.Revision.the-variants.{A, B}
+use Rattle.vrc6_banking.specs.Banking.{settingsOf}
 use Rattle.vrc6_calls.specs.declared.Call.{Call}
 use Rattle.vrc6_calls.specs.declared.Call.the-variants.{CpuWrite, PictureWrite, Clock}
 use Rattle.vrc6.specs.Boards.{Creation}
@@ -19,13 +20,12 @@ use Rattle.vrc6_calls.specs.Lists.{after, answers}
 use Rattle.vrc6_ledger.specs.Ledger.{ledgerOf}
 use Rattle.vrc6_ledger.specs.Demand3.{part, clockCount, tickCount, Stretch, start}
 
--- a creation of this layout, its buffers all zero
+-- a creation of this layout with a mirroring and a revision, its buffers all zero
 abbrev pub zeros : MemoryLayout → Mirroring → Revision → Creation
 zeros l m r =
     record {
       layout = l;
-      mirroring = m;
-      revision = r;
+      settings = settingsOf m r;
       fixed = replicate (fixedLength l) 0;
       changing = replicate (changingLength l) 0;
     }

@@ -87,11 +87,11 @@ lastTo r b (k ∷ ks) = orElse (lastTo r b ks) (writtenTo r b (event k))
 
 -- of every creation, every list and each of the eleven: the ledger holds the last byte written to it, or none (00, 3)
 abbrev pub RegistersLaw : Type 0
-RegistersLaw = (c : Creation) (ks : List Call) (b : BankRegister) → Eleven b → lastHeld (ledgerOf c ks .registers) b ≡ lastTo (c .revision) b ks
+RegistersLaw = (c : Creation) (ks : List Call) (b : BankRegister) → Eleven b → lastHeld (ledgerOf c ks .registers) b ≡ lastTo (c .settings .revision) b ks
 
 -- of every creation and every list: what the board was made with stays what creation said
 abbrev pub OriginLaw : Type 0
-OriginLaw = (c : Creation) (ks : List Call) → ledgerOf c ks .origin ≡ record { mirroring = c .mirroring; revision = c .revision }
+OriginLaw = (c : Creation) (ks : List Call) → ledgerOf c ks .origin ≡ c .settings
 
 -- ---- the bytes of the changing buffer
 -- the byte that a write of v to an address stores at place i of the changing buffer: where the address's page is writable and shows

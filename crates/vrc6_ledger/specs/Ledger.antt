@@ -18,8 +18,7 @@ use Rattle.registers.specs.declared.BankRegister.the-variants.{Prg16, Prg8, Mod
 use Rattle.registers.specs.declared.IrqRegister.{IrqRegister}
 use Rattle.registers.specs.declared.IrqRegister.the-variants.{Reload, Control, Acknowledge}
 use Rattle.registers.specs.Decode.{decode}
-use Rattle.vrc6_slots.specs.declared.Mirroring.{Mirroring}
-use Rattle.vrc6_banking.specs.declared.banking.Revision.{Revision}
+use Rattle.vrc6_banking.specs.declared.banking.Settings.{Settings}
 use Rattle.vrc6_banking.specs.declared.banking.Banking.{Banking}
 use Rattle.vrc6_banking.specs.Banking.{mirroringNumber, isB}
 use Rattle.vrc6_slots.specs.Nametables.{mirroringNumbers, nametableNumbers, nametableMirroring}
@@ -44,16 +43,10 @@ pub record Timing : Type 0 where
   pub cycle : Bool
   pub prescaler : ℕ
 
--- what the board was made with: the mirroring that stands until a register says another, and the revision that decodes
--- (01, Demand 3's lists and their ledger 2)
-pub record Origin : Type 0 where
-  pub mirroring : Mirroring
-  pub revision : Revision
-
--- the ledger: what the board was made with, registers, a copy of the changing buffer, interrupt values
--- (01, Demand 3's lists and their ledger 2)
+-- the ledger: what the board was made with (of it the mirroring stands until a register says another, and the revision decodes),
+-- registers, a copy of the changing buffer, interrupt values (01, Demand 3's lists and their ledger 2)
 pub record Ledger : Type 0 where
-  pub origin : Origin
+  pub origin : Settings
   pub registers : Registers
   pub copy : List ℕ
   pub timing : Timing
@@ -62,12 +55,12 @@ pub record Ledger : Type 0 where
 abbrev pub noTiming : Timing
 noTiming = record { after-acknowledge = false; enabled = false; cycle = false; prescaler = 0 }
 
--- at creation: mirroring and revision as given, every register has none, and the copy is the changing buffer as supplied
+-- at creation: the settings as given, every register has none, and the copy is the changing buffer as supplied
 -- (01, Demand 3's lists and their ledger 2)
 abbrev pub opening : Creation → Ledger
 opening c =
     record {
-      origin = record { mirroring = c .mirroring; revision = c .revision };
+      origin = c .settings;
       registers = record { prg16 = none; prg8 = none; mode = none; chr = replicate 8 none };
       copy = c .changing;
       timing = noTiming;
@@ -96,7 +89,7 @@ settled r = has (r .mode) || anyHas (r .chr)
 -- the banking values that follow from what the board was made with and the registers: the mode, the PRG numbers AND $0F and AND $1F, the CHR
 -- bytes, mirroring and nametable numbers by the table or as the board was made with, the revision
 -- (01, Banks and decode 1; 01, Banks and decode 5; 01, Banks and decode 6)
-abbrev pub bankingBy : Origin → Registers → Banking
+abbrev pub bankingBy : Settings → Registers → Banking
 bankingBy o r =
     record {
       «banking_mode» = byteOf (r .mode);

@@ -24,7 +24,7 @@ played x (k ∷ ks) = played (done x (event k)) ks
 
 -- the new board with the buffers lent at creation
 abbrev pub fresh : Creation → State
-fresh c = heldBy (newBoard (c .layout) (c .mirroring) (c .revision)) (c .fixed) (c .changing)
+fresh c = heldBy (newBoard (c .layout) (c .settings)) (c .fixed) (c .changing)
 
 -- of every accepted creation and every list: what the calls leave is what they do, since none is refused
 abbrev pub PlayedLaw : Type 0

@@ -13,7 +13,7 @@ use Rattle.vrc6_slots.specs.declared.Mirroring.{Mirroring}
 use Rattle.vrc6_slots.specs.declared.Mirroring.the-variants.{Vertical, Horizontal, FourScreen}
 use Rattle.vrc6_banking.specs.declared.banking.Revision.the-variants.{A}
 use Rattle.vrc6_slots.specs.Chr.{chrSlots}
-use Rattle.vrc6_banking.specs.Banking.{firstBanking, bankWritten}
+use Rattle.vrc6_banking.specs.Banking.{settingsOf, firstBanking, bankWritten}
 use Rattle.vrc6_tables.specs.Tables.{tableOf}
 
 -- layout S (01, Reference positions 1)
@@ -27,7 +27,7 @@ writes b (w ∷ ws) = writes (bankWritten (w .0) (w .1) b) ws
 
 -- the banking values of a board created with a mirroring, after such writes
 abbrev after : Mirroring → List (BankRegister × ℕ) → Banking
-after m ws = writes (firstBanking m A) ws
+after m ws = writes (firstBanking (settingsOf m A)) ws
 
 -- CHR 4 to 7 are 2, 3, 5 and 9, and then the mode is written
 abbrev moded : (mode : ℕ) → Banking

@@ -1,5 +1,5 @@
 //! A player's loop in small, as host/c/main.c: it prints the same lines.
-use vrc6::{Level, MemoryLayout, Mirroring, Refusal, Revision, Vrc6};
+use vrc6::{Level, MemoryLayout, Refusal, Settings, Vrc6};
 
 const LAYOUT: MemoryLayout =
     MemoryLayout { prg_rom: 131_072, chr: 131_072, chr_writable: false, prg_ram: 8192, ciram: 2048 };
@@ -61,7 +61,7 @@ fn pages(v: &mut Vrc6) -> Result<(), Refusal> {
 fn main() -> Result<(), Refusal> {
     let changing = vec![0x5A; LAYOUT.changing_length()];
     println!("fixed {} bytes, changing {} bytes", LAYOUT.fixed_length(), LAYOUT.changing_length());
-    let mut v = Vrc6::new(LAYOUT, Mirroring::Vertical, Revision::A, made_up_rom(), changing)?;
+    let mut v = Vrc6::new(LAYOUT, Settings::default(), made_up_rom(), changing)?;
     banks(&mut v)?;
     interrupt(&mut v)?;
     sound(&mut v)?;

@@ -4,13 +4,13 @@
 //!
 //! What the archive cannot check, Rust's types promise: a reference is live and not aliased, a slice is as long as it
 //! says, a bool is 0 or 1. The archive keeps no pointer.
-use crate::records::{Board, EncodedForecast, EncodedLevel, MemoryLayout, PageAt, Peeked, Tick};
+use crate::records::{Board, EncodedForecast, EncodedLevel, MemoryLayout, NumberedSettings, PageAt, Peeked, Tick};
 
 // A slice crosses as a pointer and a length.
 #[rustfmt::skip]
 unsafe extern "C" {
     fn vrc6_create(
-        board: *mut Board, layout: MemoryLayout, mirroring: u8, revision: u8,
+        board: *mut Board, layout: MemoryLayout, settings: NumberedSettings,
         fixed: *const u8, fixed_len: usize, changing: *const u8, changing_len: usize,
     ) -> u8;
     fn vrc6_clock(board: *mut Board) -> Tick;
@@ -40,14 +40,13 @@ unsafe extern "C" {
 pub fn create(
     board: &mut Board,
     layout: MemoryLayout,
-    mirroring: u8,
-    revision: u8,
+    settings: NumberedSettings,
     fixed: &[u8],
     changing: &[u8],
 ) -> u8 {
     let (f, c) = (fixed, changing);
     // SAFETY: one live board; two live slices with their own lengths, only read.
-    unsafe { vrc6_create(board, layout, mirroring, revision, f.as_ptr(), f.len(), c.as_ptr(), c.len()) }
+    unsafe { vrc6_create(board, layout, settings, f.as_ptr(), f.len(), c.as_ptr(), c.len()) }
 }
 
 pub fn clock(board: &mut Board) -> Tick {

@@ -44,8 +44,9 @@ pub fn unless<T>(refusal: u8, answer: T) -> Result<T, Refusal> {
     }
 }
 
-#[derive(Debug, Clone, Copy, PartialEq, Eq)]
+#[derive(Debug, Clone, Copy, PartialEq, Eq, Default)]
 pub enum Mirroring {
+    #[default]
     Vertical = 0,
     Horizontal = 1,
     SingleScreenA = 2,
@@ -54,10 +55,18 @@ pub enum Mirroring {
 }
 
 /// B exchanges address lines 0 and 1.
-#[derive(Debug, Clone, Copy, PartialEq, Eq)]
+#[derive(Debug, Clone, Copy, PartialEq, Eq, Default)]
 pub enum Revision {
+    #[default]
     A = 0,
     B = 1,
+}
+
+/// What a board is made with, beside its memory.
+#[derive(Debug, Clone, Copy, PartialEq, Eq, Default)]
+pub struct Settings {
+    pub mirroring: Mirroring,
+    pub revision: Revision,
 }
 
 /// The level of the sound: silent if no channel is enabled, otherwise held if halted.
@@ -80,15 +89,9 @@ pub struct Vrc6 {
 impl Vrc6 {
     /// `fixed` holds a page of zeros, PRG ROM, and CHR if it is not writable; `changing` holds PRG RAM, CHR if it is
     /// writable, and CIRAM. Each region is filled up to whole pages of 1,024.
-    pub fn new(
-        layout: MemoryLayout,
-        mirroring: Mirroring,
-        revision: Revision,
-        fixed: Vec<u8>,
-        changing: Vec<u8>,
-    ) -> Result<Self, Refusal> {
+    pub fn new(layout: MemoryLayout, settings: Settings, fixed: Vec<u8>, changing: Vec<u8>) -> Result<Self, Refusal> {
         let mut board = Board::default();
-        let refusal = calls::create(&mut board, layout, mirroring as u8, revision as u8, &fixed, &changing);
+        let refusal = calls::create(&mut board, layout, settings.into(), &fixed, &changing);
         unless(refusal, Vrc6 { board, fixed, changing })
     }
 

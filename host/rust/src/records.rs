@@ -1,4 +1,5 @@
 //! The records that cross to the archive: the structs of crates/, field for field.
+use crate::Settings;
 use std::mem::{offset_of, size_of};
 
 /// Byte lengths as the cartridge states them.
@@ -32,6 +33,22 @@ impl MemoryLayout {
         let ciram = if self.ciram == 0 { 2048 } else { self.ciram };
         let chr = if self.chr_writable { whole_pages(self.chr) } else { 0 };
         whole_pages(self.prg_ram) + chr + whole_pages(ciram)
+    }
+}
+
+/// What a board is made with, beside its memory: [`Settings`] by their numbers.
+#[repr(C)]
+#[derive(Debug, Clone, Copy, PartialEq, Eq, Default)]
+pub struct NumberedSettings {
+    /// 0 to 4.
+    pub mirroring: u8,
+    /// 0 for A, 1 for B.
+    pub revision: u8,
+}
+
+impl From<Settings> for NumberedSettings {
+    fn from(s: Settings) -> Self {
+        NumberedSettings { mirroring: s.mirroring as u8, revision: s.revision as u8 }
     }
 }
 
@@ -176,6 +193,7 @@ macro_rules! places {
 }
 
 places!(MemoryLayout: 20; prg_rom 0, chr 4, chr_writable 8, prg_ram 12, ciram 16);
+places!(NumberedSettings: 2; mirroring 0, revision 1);
 places!(Page: 4; 0 0);
 places!(Banking: 17; banking_mode 0, prg_banks 1, chr 3, mirroring 11, nt_banks 12, revision_b 16);
 places!(VrcIrq: 10; reload 0, prescalar_counter 2, counter 4, irq_pending 5, enabled 6);

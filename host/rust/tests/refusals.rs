@@ -1,11 +1,11 @@
 //! Bad input: each call is refused by its number, and leaves board and buffers as they were.
 mod common;
 use common::{S, board_of, changing, fixed};
-use vrc6::records::{EncodedForecast, EncodedLevel, PageAt, Peeked, Tick};
-use vrc6::{Board, MemoryLayout, Mirroring, Refusal, Revision, Vrc6, calls};
+use vrc6::records::{EncodedForecast, EncodedLevel, NumberedSettings, PageAt, Peeked, Tick};
+use vrc6::{Board, MemoryLayout, Refusal, Revision, Settings, Vrc6, calls};
 
 fn created(layout: MemoryLayout, fixed: Vec<u8>, changing: Vec<u8>) -> Result<Vrc6, Refusal> {
-    Vrc6::new(layout, Mirroring::Vertical, Revision::A, fixed, changing)
+    Vrc6::new(layout, Settings::default(), fixed, changing)
 }
 
 /// The calls that take buffers.
@@ -54,7 +54,8 @@ fn numbers_that_name_nothing() {
     let (f, c) = (fixed(&S), changing(&S));
     for (mirroring, revision) in [(5, 0), (9, 0), (255, 1), (0, 2), (4, 255)] {
         let mut b = *board_of(S, Revision::B).board();
-        assert_eq!(calls::create(&mut b, S, mirroring, revision, &f, &c), 3);
+        let settings = NumberedSettings { mirroring, revision };
+        assert_eq!(calls::create(&mut b, S, settings, &f, &c), 3);
         assert_eq!(b, Board::default());
         refused_without_buffers(b);
         refused_with_buffers(b, &f, &mut c.clone(), 2);

@@ -9,24 +9,21 @@ use borrow.Author.Needs.{needs}
 use Rattle.host_answers.proofs.create_numbered.Statement.{statement}
 use Rattle.host_answers.proofs.create_numbered.Tie as tie
 
-mirroring-of-requires : tie.Need-mirroring-of-requires
-mirroring-of-requires c κs = search needs
+settings-of-requires : tie.Need-settings-of-requires
+settings-of-requires c κs = search needs
 
-revision-of-requires : tie.Need-revision-of-requires
-revision-of-requires c κs = search needs
-
-numbers-named-requires : tie.Need-numbers-named-requires
-numbers-named-requires c κs = search needs
+settings-named-requires : tie.Need-settings-named-requires
+settings-named-requires c κs = search needs
 
 create-requires : tie.Need-create-requires
 create-requires c κs = search needs
 
 returns : tie.Need-returns
 returns c =
-    let a = c .before .before .before .before .before .before .before .args in
+    let a = c .before .before .before .before .before .before .args in
     c .create .ensures
-    ∙ (λ i. create (record { layout = a .layout; mirroring = c .before .before .before .before .mirroring-of .ensures i; revision = c .before .before .before .revision-of .ensures i; fixed = now (a .fixed); changing = now (a .changing) }))
-    ∙ named (a .layout) (a .mirroring) (a .revision) (now (a .fixed)) (now (a .changing)) (sym (c .before .before .numbers-named .ensures) ∙ c .before .if1 .taken)
+    ∙ (λ i. create (record { layout = a .layout; settings = c .before .before .before .settings-of .ensures i; fixed = now (a .fixed); changing = now (a .changing) }))
+    ∙ named (a .layout) (a .settings) (now (a .fixed)) (now (a .changing)) (sym (c .before .before .settings-named .ensures) ∙ c .before .if1 .taken)
 
 sub-create : tie.Need-sub-create
 sub-create c = search needs
@@ -46,29 +43,28 @@ refusal-requires c κs = search needs
 -- the board of the create with an empty buffer
 zero : (c : tie.After-create2) → c .create2 .result .board ≡ zeroBoard
 zero c =
-    let a = c .before .before .before .before .before .before .before .before .args in
+    let a = c .before .before .before .before .before .before .before .args in
     (λ i. c .create2 .ensures i .board)
-    ∙ no-board (record { layout = a .layout; mirroring = c .before .before .before .before .before .mirroring-of .result; revision = c .before .before .before .before .revision-of .result; fixed = []; changing = now (a .changing) }) refl
+    ∙ no-board (record { layout = a .layout; settings = c .before .before .before .before .settings-of .result; fixed = []; changing = now (a .changing) }) refl
 
 returns-2 : tie.Need-returns-2
 returns-2 c =
-    let a = c .before .before .before .before .before .before .before .before .before .before .before .args in
+    let a = c .before .before .before .before .before .before .before .before .before .before .args in
     (λ i. record { board = zero (c .before .before .before) i; refusal = c .before .refusal .result })
-    ∙ unnamed-before (a .layout) (a .mirroring) (a .revision) (now (a .fixed)) (now (a .changing)) (sym (c .before .before .before .before .before .before .numbers-named .ensures) ∙ c .before .before .before .before .before .if1 .left) _ (c .before .refusal .ensures) (c .if2 .taken)
+    ∙ unnamed-before (a .layout) (a .settings) (now (a .fixed)) (now (a .changing)) (sym (c .before .before .before .before .before .before .settings-named .ensures) ∙ c .before .before .before .before .before .if1 .left) _ (c .before .refusal .ensures) (c .if2 .taken)
 
 returns-3 : tie.Need-returns-3
 returns-3 c =
-    let a = c .before .before .before .before .before .before .before .before .before .before .before .args in
+    let a = c .before .before .before .before .before .before .before .before .before .before .args in
     (λ i. record { board = zero (c .before .before .before) i; refusal = 3 })
-    ∙ unnamed-by-3 (a .layout) (a .mirroring) (a .revision) (now (a .fixed)) (now (a .changing)) (sym (c .before .before .before .before .before .before .numbers-named .ensures) ∙ c .before .before .before .before .before .if1 .left) _ (c .before .refusal .ensures) (c .if2 .left)
+    ∙ unnamed-by-3 (a .layout) (a .settings) (now (a .fixed)) (now (a .changing)) (sym (c .before .before .before .before .before .before .settings-named .ensures) ∙ c .before .before .before .before .before .if1 .left) _ (c .before .refusal .ensures) (c .if2 .left)
 
 pub create-numbered-spec : {M : Type 1} → statement M
 create-numbered-spec =
     tie.close
     (tie.spec
-    mirroring-of-requires
-    revision-of-requires
-    numbers-named-requires
+    settings-of-requires
+    settings-named-requires
     create-requires
     returns
     sub-create

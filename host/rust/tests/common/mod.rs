@@ -1,5 +1,5 @@
 //! The cartridge of the tests: layout S of the reference positions, each page of ROM filled with its number.
-use vrc6::{MemoryLayout, Mirroring, Revision, Vrc6};
+use vrc6::{MemoryLayout, Revision, Settings, Vrc6};
 
 pub const S: MemoryLayout =
     MemoryLayout { prg_rom: 131_072, chr: 131_072, chr_writable: false, prg_ram: 8192, ciram: 2048 };
@@ -13,5 +13,6 @@ pub fn changing(layout: &MemoryLayout) -> Vec<u8> {
 }
 
 pub fn board_of(layout: MemoryLayout, revision: Revision) -> Vrc6 {
-    Vrc6::new(layout, Mirroring::Vertical, revision, fixed(&layout), changing(&layout)).expect("a board")
+    let settings = Settings { revision, ..Settings::default() };
+    Vrc6::new(layout, settings, fixed(&layout), changing(&layout)).expect("a board")
 }

@@ -10,12 +10,19 @@ use tetanes_shim::{
 #[repr(C, align(8))]
 pub struct Board(pub [u8; 1024]);
 
+/// What a board is made with, by numbers.
+#[repr(C)]
+struct Settings {
+    mirroring: u8,
+    revision: u8,
+}
+
 // A slice crosses as a pointer and a length.
 #[rustfmt::skip]
 #[link(name = "vrc6", kind = "static")]
 unsafe extern "C" {
     fn vrc6_create(
-        b: *mut Board, layout: Layout, mirroring: u8, revision: u8,
+        b: *mut Board, layout: Layout, settings: Settings,
         fixed: *const u8, fixed_len: usize, changing: *const u8, changing_len: usize,
     ) -> u8;
     fn vrc6_clock(b: *mut Board) -> Tick;
@@ -46,10 +53,10 @@ impl Lent {
     pub fn new(s: Setup, r: &Rig, blank: u8) -> Self {
         let fixed = [&[0; 1024], r.m.region_ref(Src::PrgRom), r.m.region_ref(Src::Chr)].concat();
         let mut l = Lent { board: Board([blank; 1024]), fixed, changing: r.m.ram().to_vec() };
-        let (m, rev) = (s.mirroring as u8, u8::from(s.rev == Revision::B));
+        let settings = Settings { mirroring: s.mirroring as u8, revision: u8::from(s.rev == Revision::B) };
         let (f, c) = (&l.fixed, &l.changing);
         let refusal = unsafe {
-            vrc6_create(&mut l.board, Layout::of(&s), m, rev, f.as_ptr(), f.len(), c.as_ptr(), c.len())
+            vrc6_create(&mut l.board, Layout::of(&s), settings, f.as_ptr(), f.len(), c.as_ptr(), c.len())
         };
         assert_eq!(refusal, 0, "vrc6_create refused");
         l

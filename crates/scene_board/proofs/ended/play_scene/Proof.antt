@@ -25,11 +25,11 @@ same-length c = search needs
 
 returns : tie.Need-returns
 returns c = (
-  ends (c .before .before .before .before .before .before .before .before .before .before .before .before .before .before .before .before .before .before .before .args .layout) (c .before .before .before .before .before .before .before .before .before .before .before .before .before .before .before .before .before .before .before .args .mirroring) (c .before .before .before .before .before .before .before .before .before .before .before .before .before .before .before .before .before .before .before .args .revision) (now (c .before .before .before .before .before .before .before .before .before .before .before .before .before .before .before .before .before .before .before .args .fixed)) (now (c .before .before .before .before .before .before .before .before .before .before .before .before .before .before .before .before .before .before .before .args .changing)) (now (c .before .before .before .before .before .before .before .before .before .before .before .before .before .before .before .before .before .before .before .args .writes)) (now (c .before .before .before .before .before .before .before .before .before .before .before .before .before .before .before .before .before .before .before .args .menu))
+  ends (c .before .before .before .before .before .before .before .before .before .before .before .before .before .before .before .before .before .before .before .args .layout) (c .before .before .before .before .before .before .before .before .before .before .before .before .before .before .before .before .before .before .before .args .settings) (now (c .before .before .before .before .before .before .before .before .before .before .before .before .before .before .before .before .before .before .before .args .fixed)) (now (c .before .before .before .before .before .before .before .before .before .before .before .before .before .before .before .before .before .before .before .args .changing)) (now (c .before .before .before .before .before .before .before .before .before .before .before .before .before .before .before .before .before .before .before .args .writes)) (now (c .before .before .before .before .before .before .before .before .before .before .before .before .before .before .before .before .before .before .before .args .menu))
       (c .before .before .before .before .before .before .before .before .before .before .before .before .before .create-numbered .result) (c .before .before .before .before .before .before .before .before .before .before .before .before .before .create-numbered .ensures)
       (c .before .before .before .before .before .before .before .before .before .before .before .play .result) (c .before .before .before .before .before .before .before .play2 .result) _ _ (c .before .before .before .before .before .before .before .before .before .before .before .play .ensures) (c .before .before .before .before .before .before .before .play2 .ensures)
       _ _ (c .before .slots-shown .ensures) (c .slots-shown2 .ensures),
-  left (c .before .before .before .before .before .before .before .before .before .before .before .before .before .before .before .before .before .before .before .args .layout) (c .before .before .before .before .before .before .before .before .before .before .before .before .before .before .before .before .before .before .before .args .mirroring) (c .before .before .before .before .before .before .before .before .before .before .before .before .before .before .before .before .before .before .before .args .revision) (now (c .before .before .before .before .before .before .before .before .before .before .before .before .before .before .before .before .before .before .before .args .fixed)) (now (c .before .before .before .before .before .before .before .before .before .before .before .before .before .before .before .before .before .before .before .args .changing)) (now (c .before .before .before .before .before .before .before .before .before .before .before .before .before .before .before .before .before .before .before .args .writes)) (now (c .before .before .before .before .before .before .before .before .before .before .before .before .before .before .before .before .before .before .before .args .menu))
+  left (c .before .before .before .before .before .before .before .before .before .before .before .before .before .before .before .before .before .before .before .args .layout) (c .before .before .before .before .before .before .before .before .before .before .before .before .before .before .before .before .before .before .before .args .settings) (now (c .before .before .before .before .before .before .before .before .before .before .before .before .before .before .before .before .before .before .before .args .fixed)) (now (c .before .before .before .before .before .before .before .before .before .before .before .before .before .before .before .before .before .before .before .args .changing)) (now (c .before .before .before .before .before .before .before .before .before .before .before .before .before .before .before .before .before .before .before .args .writes)) (now (c .before .before .before .before .before .before .before .before .before .before .before .before .before .before .before .before .before .before .before .args .menu))
       (c .before .before .before .before .before .before .before .before .before .before .before .before .before .create-numbered .result) (c .before .before .before .before .before .before .before .before .before .before .before .before .before .create-numbered .ensures)
       (c .before .before .before .before .before .before .before .before .before .before .before .play .result) (c .before .before .before .before .before .before .before .play2 .result) _ _ (c .before .before .before .before .before .before .before .before .before .before .before .play .ensures) (c .before .before .before .before .before .before .before .play2 .ensures),
 )

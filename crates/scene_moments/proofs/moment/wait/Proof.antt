@@ -1,7 +1,9 @@
 -- `wait` meets its contract. Assumes nothing.
 use mathlib.Core.Path.{sym, ap, _∙_}
 use Rattle.scene_moments.specs.Moments.{dueWithin}
+use Rattle.irq.proofs.Board.{pace}
 use Rattle.scene_moments.proofs.Handling.{comes, goes-by}
+use Rattle.scene_moments.proofs.Waiting.{undisturbed}
 use borrow.Author.Needs.{needs}
 use Rattle.scene_moments.proofs.moment.wait.Statement.{statement}
 use Rattle.scene_moments.proofs.moment.wait.Tie as tie
@@ -16,7 +18,7 @@ returns : tie.Need-returns
 returns c = comes (c .before .before .before .args .irq) _ _ _ _ (c .before .before .clocks-due .ensures) (c .before .if1 .taken) (c .wrapping-add-u32 .ensures)
 
 clock-times-requires : tie.Need-clock-times-requires
-clock-times-requires c κs = ap (dueWithin (c .before .before .args .n)) (sym (c .before .clocks-due .ensures)) ∙ c .if1 .left
+clock-times-requires c κs = (pace, undisturbed _ _ (search needs) (ap (dueWithin (c .before .before .args .n)) (sym (c .before .clocks-due .ensures)) ∙ c .if1 .left))
 
 wrapping-add-u32-requires-2 : tie.Need-wrapping-add-u32-requires-2
 wrapping-add-u32-requires-2 c κs = search needs

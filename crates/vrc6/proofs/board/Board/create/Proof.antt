@@ -19,7 +19,7 @@ zero-requires c κs = search needs
 returns : tie.Need-returns
 returns c =
     let a = c .before .before .before .before .before .args in
-    rw (c .zero .ensures) (created-refused (record { layout = a .layout; mirroring = a .mirroring; revision = a .revision; fixed = now (a .fixed); changing = now (a .changing) }) _ (c .before .before .create-refusal .ensures) (c .before .if1 .taken))
+    rw (c .zero .ensures) (created-refused (record { layout = a .layout; settings = a .settings; fixed = now (a .fixed); changing = now (a .changing) }) _ (c .before .before .create-refusal .ensures) (c .before .if1 .taken))
 
 new-requires : tie.Need-new-requires
 new-requires c κs =
@@ -29,7 +29,7 @@ new-requires c κs =
 returns-2 : tie.Need-returns-2
 returns-2 c =
     let a = c .before .before .before .before .before .args in
-    rw (c .new .ensures) (created (record { layout = a .layout; mirroring = a .mirroring; revision = a .revision; fixed = now (a .fixed); changing = now (a .changing) }) _ (c .before .before .create-refusal .ensures) (c .before .if1 .left))
+    rw (c .new .ensures) (created (record { layout = a .layout; settings = a .settings; fixed = now (a .fixed); changing = now (a .changing) }) _ (c .before .before .create-refusal .ensures) (c .before .if1 .left))
 
 pub create-spec : {M : Type 1} → statement M
 create-spec =
