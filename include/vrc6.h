@@ -232,7 +232,7 @@ Vrc6Forecast vrc6_forecast(Vrc6Board *board);
 Vrc6PageAt vrc6_page_view(Vrc6Board *board, const uint8_t *fixed, size_t fixed_len, const uint8_t *changing,
                           size_t changing_len, uint16_t addr);
 
-/* What the archive was compiled for; host/c/sizes.c sees that it is. */
+/* What the archive was compiled for; host/c/sizes.c and fields.c see that it is. */
 #define VRC6_AT(type, field, at) static_assert(offsetof(type, field) == (at), #type "." #field)
 #define VRC6_SIZE(type, size) static_assert(sizeof(type) == (size), #type)
 

@@ -20,8 +20,8 @@ static bool is_sum(uint32_t bits) {
 
 int main(void) {
     Vrc6Board board;
-    if (vrc6_create(&board, (Vrc6MemoryLayout){0}, VRC6_VERTICAL, VRC6_REVISION_A, fixed, sizeof fixed, changing,
-                    sizeof changing))
+    Vrc6Settings settings = {.mirroring = VRC6_VERTICAL, .revision = VRC6_REVISION_A};
+    if (vrc6_create(&board, (Vrc6MemoryLayout){0}, settings, fixed, sizeof fixed, changing, sizeof changing))
         return 2;
     uint64_t sums = 0, different = 0;
     uint32_t bits = 0;

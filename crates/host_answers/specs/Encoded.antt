@@ -1,4 +1,4 @@
--- What the lent forms answer beside the board that they advance (01, The board's calls). Assumes nothing.
+-- Creation by numbers, and answers as numbers, since no enum crosses to C (01, The board's calls). Assumes nothing.
 use mathlib.Core.Bool.{Bool, true, false, cond, _&&_}
 use mathlib.Core.List.{List, [], _∷_, _++_}
 use Prim.Native.Nat.{ℕ, zero, suc, _-_}
@@ -37,7 +37,7 @@ use Rattle.host_answers.specs.declared.Numbered.{Numbered}
 use Rattle.host_answers.specs.declared.NumberedSettings.{NumberedSettings}
 
 -- ---- create, by numbers
--- the mirroring of a number (ppu.rs, Mirroring)
+-- the mirroring of a number; from 4 on FourScreen (ppu.rs, Mirroring)
 abbrev pub mirroringNumbered : ℕ → Mirroring
 mirroringNumbered zero = Vertical
 mirroringNumbered (suc zero) = Horizontal

@@ -1,4 +1,4 @@
--- What the lent forms answer beside the board that they advance (01, The board's calls). Assumes nothing.
+-- Answers of the lent forms without their board (01, The board's calls). Assumes nothing.
 use Prim.Native.Nat.{ℕ, _/_}
 use lib.Dec.{eqb}
 use Rattle.memory_access.specs.declared.Peeked.{Peeked}

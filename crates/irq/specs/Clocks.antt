@@ -17,7 +17,7 @@ irqClockedTimes d l n q = times n (λ s. irqAnswer d l s .irq) q
 abbrev pub reported : (d l n : ℕ) → VrcIrq → ℕ
 reported d l n q = count n (λ s. irqAnswer d l s .ticked) (λ s. irqAnswer d l s .irq) q
 
--- none of n clocks ticks at 255: their ticks leave the counter at 255 or below (01, Interrupt 1)
+-- counter and ticks of n clocks are 255 at most together; of a byte, by `QuietLaw`, none of them ticks at 255 (01, Interrupt 1)
 abbrev pub Unset : (d l n : ℕ) → VrcIrq → Type 0
 Unset d l n q = q .counter + reported d l n q ≤ 255
 

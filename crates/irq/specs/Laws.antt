@@ -102,7 +102,7 @@ NoneLaw = (d l : ℕ) (q : VrcIrq) → (irqForecast d l q ≡ None) ↔ (q .enab
 abbrev pub Exact : (d l : ℕ) → VrcIrq → Type 0
 Exact d l q = (q .«cycle_mode» ≡ true) ⊎ ((1 ≤ q .«prescalar_counter») ⊎ ((q .counter < 255) × (d < l)))
 
--- the states that are not: counting lines, the prescaler is 0, and the counter is 255 or d = l
+-- the states that are not: not in cycle mode, the prescaler is 0, and the counter is 255 or d = l
 pub record Late (d l : ℕ) (q : VrcIrq) : Type 0 where
   pub lines : q .«cycle_mode» ≡ false
   pub prescaler : q .«prescalar_counter» ≡ 0

@@ -1,6 +1,6 @@
 // One access to the two lent buffers through an entry: check, byte, store and view (tetanes-core's memory.rs, `prg_peek`,
-// `prg_write`, `chr_peek`, `chr_write`). The functions take the parts that they need, layout, entry and buffers, so
-// that a loop over them repeats no check.
+// `prg_write`, `chr_peek`, `chr_write`). The functions take the parts of a board that they need, layout, entry and
+// buffers; `store` alone checks nothing.
 use memory_layout::MemoryLayout;
 use memory_layout::Page;
 ghost use mathlib.Core.Path.{_≡_};

@@ -85,7 +85,7 @@ pub enum Lookup {
 }
 
 impl Lookup {
-    // The entry found, or the unmapped one, which shows zeros.
+    // The entry found, or the unmapped one, which shows the fixed buffer's first page.
     pub fn page(self) -> Page
         ensures { λ r. ⌜ r ≡ serving self ⌝ }
     {

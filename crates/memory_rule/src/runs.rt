@@ -1,4 +1,4 @@
-// Windows that do not wrap. A region that is as long as its window shows it page after page, so that only the first entry
+// Windows that do not wrap. A region that is at least as long as its window shows it page after page, so that only the first entry
 // needs the paging rule.
 use crate::first_page;
 use memory_layout::Page;

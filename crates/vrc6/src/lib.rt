@@ -2,7 +2,8 @@
 // m024_m026_vrc6.rs and memory.rs).
 //
 // A call tests what it checks before anything changes, and refuses by number: 0 for none, otherwise the first failing
-// of the conditions 1, 2, 3 and 4. Refused, it gives the board back as it was, and leaves both buffers alone.
+// of the conditions 1, 2, 3 and 4. Refused, it gives the board back as it was, and leaves both buffers alone; only create
+// gives the zero board.
 pub mod board;
 pub mod clocks;
 pub mod create;

@@ -16,7 +16,7 @@ ghost use Rattle.vrc6.specs.Boards.{entryOf, heldBy};
 ghost use Rattle.vrc6.specs.Calls.{byteRead, pageView, pageViewRefusal};
 
 // What a CPU read gives through an entry, by the parts of a board that it needs. Here an unmapped entry is told apart: it
-// reads as zero.
+// shows the fixed buffer's first page, which creation wants zero.
 pub fn cpu_peek(
     layout: MemoryLayout,
     entry: Page,

@@ -78,8 +78,8 @@ pub fn reached(revision_b: bool, addr: u16) -> u8
 }
 
 impl Board {
-    // A bank register takes a byte, and every entry is rebuilt from the banking values. A layout above the limits has no
-    // entries.
+    // A bank register takes a byte, and every entry is rebuilt from the banking values. Above the limits
+    // of a layout the board stays; no caller comes here so.
     fn write_bank(self, register: BankRegister, val: u8) -> Board
         ensures { λ r. ⌜ (withinLimits (self .layout) ≡ true → r ≡ registerWritten (OfBank register) val self) ⌝ }
     {

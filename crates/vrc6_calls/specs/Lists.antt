@@ -36,7 +36,7 @@ pub data Shape : Type 0 where
   views : (address : ℕ) → Shape
   asks : Ask → Shape
 
--- the kind of each call: clock and CPU write alike in both forms, and the resets
+-- the kind of each call: clock and CPU write alike in both forms, of which the lent ones' contracts name the same definitions, and the resets
 -- (01, Demand 3's lists and their ledger 1; 01, Rust forms to recast 1)
 abbrev pub shape : Call → Shape
 shape (CpuRead a) = reads cpu a

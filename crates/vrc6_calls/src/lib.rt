@@ -14,7 +14,7 @@ ghost use Rattle.vrc6.specs.Boards.{heldBy};
 ghost use Rattle.vrc6_calls.specs.Lists.{changingAfter, step};
 ghost use Rattle.vrc6_calls.specs.Stepping.{ofByteRead, ofClocked, ofForecasted, ofLeveled, ofWritten};
 
-// A call with its arguments. Clock and CPU write also come with the board lent.
+// A call with its arguments. Clock and CPU write stand twice, by value and for their lent forms, which promise the same.
 pub enum Call {
     CpuRead(u16),
     CpuWrite(u16, u8),
@@ -99,7 +99,7 @@ fn of_forecasted(r: Forecasted) -> Stepped
     }
 }
 
-// Exactly what the call gives. Of a page view this is its number; the bytes are lent back by page_view.
+// Exactly what the call gives; the lent forms are played by value. Of a page view this is its number; the bytes are lent back by page_view.
 pub fn step(board: Board, fixed: &[u8], changing: &mut [u8], call: Call) -> Stepped
     ensures { λ r. ⌜ r ≡ step (heldBy board (now (fixed .entry)) (now (changing .entry))) call ⌝ }
     ensures { λ _. ⌜ now (changing .exit) ≡ changingAfter (heldBy board (now (fixed .entry)) (now (changing .entry))) call ⌝ }

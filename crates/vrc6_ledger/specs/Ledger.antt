@@ -43,7 +43,7 @@ pub record Timing : Type 0 where
   pub cycle : Bool
   pub prescaler : ℕ
 
--- the ledger: what the board was made with (of it the mirroring stands until a register says another, and the revision decodes),
+-- the ledger: what the board was made with (of it the mirroring stands until mode or a CHR register has a byte, and the revision decodes),
 -- registers, a copy of the changing buffer, interrupt values (01, Demand 3's lists and their ledger 2)
 pub record Ledger : Type 0 where
   pub origin : Settings
@@ -109,7 +109,7 @@ abbrev pub entries : Side → Creation → Ledger → List Page
 entries s c l = tableOf s (c .layout) (bankingOf l)
 
 -- ---- what a call is to it
--- a call's name and arguments, board and buffers left out; clocks are as many as the call is (01, Demand 3's lists and their ledger 2)
+-- a call's name and arguments, board and buffers left out; `clocks n` is a call that is n clocks (01, Demand 3's lists and their ledger 2)
 pub data Event : Type 0 where
   cpuWrites pictureWrites : (address byte : ℕ) → Event
   clocks : (count : ℕ) → Event
