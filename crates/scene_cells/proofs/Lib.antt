@@ -3,6 +3,5 @@ pub mod Held
 pub mod Quotes
 pub mod RoundTrip
 pub mod Rows
-pub mod Same
 pub mod Spans
 pub mod Walking

@@ -1,12 +1,11 @@
 -- The examples, computed. Assumes nothing.
 use mathlib.Core.Path.{refl}
+use Rattle.text_words.specs.Names.{placeIn}
 use Rattle.scene_cells.specs.Cells.{plainCell, quotedCell}
-use Rattle.scene_cells.specs.Choices.{mirroringOf, revisionOf}
-use Rattle.scene_cells.specs.Columns.{columnOf}
 use Rattle.scene_cells.specs.Laws.{CellExamples}
 
 pub examples : CellExamples
-unfolding columnOf mirroringOf plainCell quotedCell revisionOf
+unfolding plainCell quotedCell placeIn
 examples =
     record {
       plain = refl;

@@ -1,20 +1,12 @@
 -- The cells that hold one of a few letters (docs/SCENES.md). Assumes nothing.
-use mathlib.Core.List.{List, [], _∷_}
+use mathlib.Core.List.{List}
 use Prim.Native.Nat.{ℕ}
-use Rattle.scene_cells.specs.Names.{placeFrom}
+use Rattle.text_words.specs.Names.{codes, placeIn}
 
--- the revision's letters: a, b (ASCII)
-abbrev pub revisions : List (List ℕ)
-revisions = (97 ∷ []) ∷ (98 ∷ []) ∷ []
+-- a cell's revision: A or B, 2 for none
+abbrev pub revisionOf : List ℕ → ℕ
+revisionOf cell = placeIn (codes "A B") cell
 
--- the mirroring's letters: v, h, a, b, 4
-abbrev pub mirrorings : List (List ℕ)
-mirrorings = (118 ∷ []) ∷ (104 ∷ []) ∷ (97 ∷ []) ∷ (98 ∷ []) ∷ (52 ∷ []) ∷ []
-
--- a cell's revision, 2 for none
-unfoldable pub revisionOf : List ℕ → ℕ
-revisionOf cell = placeFrom 0 cell revisions
-
--- a cell's mirroring, 5 for none
-unfoldable pub mirroringOf : List ℕ → ℕ
-mirroringOf cell = placeFrom 0 cell mirrorings
+-- a cell's mirroring: V, H, A, B or 4, and 5 for none
+abbrev pub mirroringOf : List ℕ → ℕ
+mirroringOf cell = placeIn (codes "V H A B 4") cell

@@ -3,6 +3,5 @@ pub mod Choices
 pub mod Columns
 pub mod Laws
 pub mod Marks
-pub mod Names
 pub mod Places
 pub mod Rows

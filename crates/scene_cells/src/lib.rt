@@ -4,7 +4,6 @@ pub mod choices;
 pub mod columns;
 pub mod lookup;
 pub mod marks;
-mod names;
 
 ghost use mathlib.Core.Path.{_≡_};
 ghost use Prim.Native.Nat.{_≤_, _<_, _+_, _-_};

@@ -1,7 +1,7 @@
 -- Places in a line that a loop walks over, and the word between two of them. Assumes nothing.
 use mathlib.Core.Path.{_≡_, refl, sym, ap, _∙_}
 use mathlib.Core.Bool.{Bool, true, false, cond, Bool·beq}
-use mathlib.Core.List.{List, []}
+use mathlib.Core.List.{List, [], _∷_}
 use Prim.Native.Nat.{ℕ, suc, _+_, _-_, _≤_, _<_}
 use native.Mathlib.Omega.{arith}
 use native.Mathlib.Numerals.{add-one}
@@ -78,3 +78,7 @@ nothing line from h =
       word = ap (λ (n : ℕ). take n (drop (length line) line)) zero-size ∙ sym (ap (λ (l : List ℕ). wordOf (fromWord l)) gone);
       past = last ∙ sym (ap (λ (l : List ℕ). pastWord (fromWord l)) gone);
     }
+
+-- a byte, and the text from it on
+pub from-byte : (text : List ℕ) (i : ℕ) → i < length text → drop i text ≡ getD text i 0 ∷ drop (i + 1) text
+from-byte text i k = rw (add-one, drop-cons text i 0)

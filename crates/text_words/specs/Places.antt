@@ -18,3 +18,9 @@ pub record Found (line : List ℕ) (text : List ℕ) (from to : ℕ) : Type 0 wh
   pub within : to ≤ length line
   pub word : take (to - from) (drop from line) ≡ wordOf (fromWord text)
   pub past : drop to line ≡ pastWord (fromWord text)
+
+-- a word of a line, by where it starts and ends
+pub record WordAt (line : List ℕ) (word : List ℕ) (from to : ℕ) : Type 0 where
+  pub order : from ≤ to
+  pub within : to ≤ length line
+  pub bytes : take (to - from) (drop from line) ≡ word

@@ -1,4 +1,5 @@
 // The words of a text, runs of bytes that are no blanks, and the numbers that they write.
+pub mod names;
 pub mod number;
 
 ghost use mathlib.Core.Path.{_≡_};

@@ -7,8 +7,8 @@ use native.Mathlib.Omega.{arith}
 use borrow.Author.Tests.{eq-eqb, ne-eqb}
 use lib.Dec.{eqb}
 use lib.ListN.{length, drop, getD, drop-of-length-le}
-use Rattle.scene_cells.specs.Names.{sameName, small}
-use Rattle.scene_cells.proofs.Spans.{from-byte}
+use Rattle.text_words.specs.Names.{sameName, small}
+use Rattle.text_words.proofs.Spans.{from-byte}
 
 and-false : (t : Bool) {u : Bool} → false ≡ u → false ≡ (t && u)
 and-false true e = e
@@ -53,8 +53,3 @@ module _ (a b : List ℕ) (i : ℕ) (p : Alike a b i) where
   finished h =
       let m : length b ≤ i = omega (arith, p .size) in
       ap₂ sameName (sym (drop-of-length-le a h)) (sym (drop-of-length-le b m)) ∙ p .rest
-
--- a list's name, and the later ones
-pub or-later : (names : List (List ℕ)) (name : List ℕ) (k : ℕ) {r s u : ℕ} → r ≡ cond (sameName name (getD names k [])) k s → s ≡ u
-    → r ≡ cond (sameName name (getD names k [])) k u
-or-later names name k e f = e ∙ ap (cond (sameName name (getD names k [])) k) f

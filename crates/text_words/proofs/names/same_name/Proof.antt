@@ -3,9 +3,9 @@ use Prim.Native.Nat.{_-_}
 use borrow.Author.Needs.{needs}
 use denote.Ref.{now}
 use lib.ListN.{length}
-use Rattle.scene_cells.proofs.Same.{Alike, begun, differs, agrees, finished, other-length}
-use Rattle.scene_cells.proofs.names.same_name.Statement.{statement}
-use Rattle.scene_cells.proofs.names.same_name.Tie as tie
+use Rattle.text_words.proofs.Same.{Alike, begun, differs, agrees, finished, other-length}
+use Rattle.text_words.proofs.names.same_name.Statement.{statement}
+use Rattle.text_words.proofs.names.same_name.Tie as tie
 
 abbrev Inv-loop : tie.InvT-loop
 Inv-loop a b i₀ i = Alike a b i

@@ -1,8 +1,8 @@
 -- `small` meets its contract. Assumes nothing.
 use native.Mathlib.Omega.{arith}
 use Rattle.text_words.proofs.Digits.{to-high}
-use Rattle.scene_cells.proofs.names.small.Statement.{statement}
-use Rattle.scene_cells.proofs.names.small.Tie as tie
+use Rattle.text_words.proofs.names.small.Statement.{statement}
+use Rattle.text_words.proofs.names.small.Tie as tie
 
 add-result : tie.Need-add-result
 add-result c = omega (arith, to-high 65 90 (c .before .args .byte) (c .if1 .taken))
