@@ -1,4 +1,6 @@
 // Whole numbers as f32s: the sum of the three channels, the test that an f32 is such a sum, and when two are one.
+pub mod pattern;
+
 ghost use mathlib.Core.Path.{_≡_};
 ghost use mathlib.Core.Bool.{true};
 ghost use Rattle.base_floats.specs.Wholes.{isSum, mixed, sumCapped};

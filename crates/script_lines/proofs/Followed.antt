@@ -1,21 +1,21 @@
 -- What follows an argument, by the tests that the code makes. Assumes nothing.
-use mathlib.Core.Path.{_≡_, sym, ap, ap₂, subst, _∙_}
-use mathlib.Core.Bool.{Bool, true, false, cond, _&&_}
+use mathlib.Core.Path.{_≡_, refl, sym, ap, ap₂, subst, _∙_}
+use mathlib.Core.Bool.{true, false}
 use mathlib.Core.List.{List, [], _∷_}
-use Prim.Native.Nat.{ℕ, _-_, _≤_, _<_}
+use Prim.Native.Nat.{ℕ, zero, suc, _-_, _≤_, _<_}
 use native.Mathlib.Omega.{arith}
 use native.Mathlib.Nat.{add-zero}
-use borrow.Author.Tests.{eq-eqb, ne-eqb, leb-true}
-use lib.Dec.{eqb, leb}
+use borrow.Author.Tests.{eq-eqb, ne-eqb, lt-ltb, le-ltb}
+use lib.Dec.{eqb, ltb}
 use lib.ListN.{length, take, drop, getD, length-drop}
-use lib.Seq.{length-take-le, getD-take, getD-drop}
-use Rattle.base_shared.proofs.Tests.{either, tested}
-use Rattle.text_words.specs.declared.number.Number.{Number}
+use lib.Seq.{length-take-le, getD-take, getD-drop, take-all}
 use Rattle.text_words.specs.declared.number.Number.the-variants.{NoNumber}
-use Rattle.text_words.specs.Numbers.{areDigits, limited, numberOf, valueOf}
+use Rattle.text_words.specs.Numbers.{numberOf}
+use Rattle.text_words.specs.Names.{placeIn}
 use Rattle.text_words.specs.Places.{Found}
 use Rattle.text_words.specs.Words.{fromWord, pastWord, wordOf}
-use Rattle.script_lines.specs.Readings.{Reading, choiceAfter, chosen, fault, following, isLetter, judged, numberAfter, right, wrongAfter}
+use Rattle.script_lines.specs.Following.{WordAfter}
+use Rattle.script_lines.specs.Readings.{Reading, chosen, fault, following, judged, largest, markedNumber, right, valueNumber, valueRule, valueWords, wrongAfter}
 
 -- a word's length and its first letter, by its places
 module _ (line text : List ℕ) (from to : ℕ) (f : Found line text from to) where
@@ -32,10 +32,6 @@ module _ (line text : List ℕ) (from to : ℕ) (f : Found line text from to) wh
       ∙ getD-take (to - from) (drop from line) 0 0 some
       ∙ getD-drop from line 0 0
       ∙ ap (λ (k : ℕ). getD line k 0) (add-zero from))
-
-  -- the code's test of one letter
-  pub same-letter : from < to → (x : ℕ) → (eqb (to - from) 1 && eqb (getD line from 0) x) ≡ isLetter x (wordOf (fromWord text))
-  same-letter h x = ap₂ (λ (n k : ℕ). eqb n 1 && eqb k x) (sym size) (letter h)
 
   pub empty : from ≡ to → eqb (length (wordOf (fromWord text))) 0 ≡ true
   empty e = eq-eqb (length (wordOf (fromWord text))) 0 (size ∙ zero-size)
@@ -61,49 +57,6 @@ module _ (rule : List ℕ → List ℕ → Reading) (r : Reading) where
     pub taken-at : (from ≡ to → ⊥) → rule (take (to - from) (drop from line)) (drop to line) ≡ following rule r
     taken-at n = ap₂ rule (f .word) (f .past) ∙ taken n
 
--- a number is within its limit
-number-within : (base limit none : ℕ) (w rest : List ℕ) → judged none (numberOf base limit w) rest .value ≤ limit
-unfolding numberOf
-number-within base limit none [] rest = omega arith
-number-within base limit none (b ∷ bs) rest =
-    either (λ (n : Number). judged none n rest .value ≤ limit) (areDigits base (b ∷ bs)) {x = limited limit (valueOf base (b ∷ bs))} {y = NoNumber}
-    (tested (leb (valueOf base (b ∷ bs)) limit)
-    (λ e. rw e (leb-true (valueOf base (b ∷ bs)) limit e))
-    (λ e. rw e (omega arith)))
-    (omega arith)
-
-pub within : (base limit none : ℕ) (r : Reading) → numberAfter base limit none r .value ≤ limit
-unfolding numberAfter
-within base limit none r =
-    either (λ (x : Reading). x .value ≤ limit) (eqb (r .wrong) 0)
-    {x = cond (eqb (length (wordOf (fromWord (r .rest)))) 0)
-    (fault 2 (pastWord (fromWord (r .rest))))
-    (judged none (numberOf base limit (wordOf (fromWord (r .rest)))) (pastWord (fromWord (r .rest))))}
-    {y = fault (r .wrong) (r .rest)}
-    (either (λ (x : Reading). x .value ≤ limit) (eqb (length (wordOf (fromWord (r .rest)))) 0)
-    {x = fault 2 (pastWord (fromWord (r .rest)))}
-    {y = judged none (numberOf base limit (wordOf (fromWord (r .rest)))) (pastWord (fromWord (r .rest)))}
-    (omega arith)
-    (number-within base limit none (wordOf (fromWord (r .rest))) (pastWord (fromWord (r .rest)))))
-    (omega arith)
-
--- one of two letters, or none
-module _ (first second : ℕ) (w rest : List ℕ) where
-  pub is-first : isLetter first w ≡ true → right 0 rest ≡ chosen first second w rest
-  is-first e = rw e
-
-  pub is-second : isLetter first w ≡ false → isLetter second w ≡ true → right 1 rest ≡ chosen first second w rest
-  is-second n e = rw (n, e)
-
-  pub is-none : isLetter first w ≡ false → isLetter second w ≡ false → fault 7 rest ≡ chosen first second w rest
-  is-none n m = rw (n, m)
-
--- a number's argument, and that it is within its limit
-pub numbered : (base limit none : ℕ) (r x : Reading) → x ≡ following (λ (word rest : List ℕ). judged none (numberOf base limit word) rest) r
-    → (x ≡ numberAfter base limit none r) × (x .value ≤ limit)
-unfolding numberAfter
-numbered base limit none r x e = (e, subst (λ (y : Reading). y .value ≤ limit) (sym e) (within base limit none r))
-
 -- the end of a call
 module _ (r : Reading) where
   pub wrong-before : (r .wrong ≡ 0 → ⊥) → r .wrong ≡ wrongAfter r
@@ -119,32 +72,80 @@ module _ (r : Reading) where
     unfolding wrongAfter
     one-more n = rw (eq-eqb (r .wrong) 0 ok, there line (r .rest) from to f n)
 
--- one of two letters, by the code's tests
-module _ (first second : ℕ) (r : Reading) (line : List ℕ) (from to : ℕ) (f : Found line (r .rest) from to) (ok : r .wrong ≡ 0) (n : from ≡ to → ⊥) where
-  some : from < to
-  some = omega (arith, n, f .order)
+-- the word behind an argument
+module _ (line : List ℕ) (r : Reading) where
+  pub none-behind : (next : ℕ) → drop next line ≡ r .rest → (r .wrong ≡ 0 → ⊥) → WordAfter line r (record { from = 0; to = 0; next = next; wrong = r .wrong })
+  none-behind next e n = record {
+    order = omega arith;
+    within = omega arith;
+    some = λ z. absurd (n z);
+    faulty = λ m rule. ap (fault (r .wrong)) e ∙ carried rule r n;
+    taken = λ z. absurd (n z);
+  }
 
-  same : (x : ℕ) {b : Bool} → (eqb (to - from) 1 && eqb (getD line from 0) x) ≡ b → isLetter x (wordOf (fromWord (r .rest))) ≡ b
-  same x e = sym (same-letter line (r .rest) from to f some x) ∙ e
+  module _ (from to : ℕ) (f : Found line (r .rest) from to) (ok : r .wrong ≡ 0) where
+    pub ends-there : from ≡ to → WordAfter line r (record { from = from; to = to; next = to; wrong = 2 })
+    ends-there e = record {
+      order = f .order;
+      within = f .within;
+      some = λ z. absurd (two z);
+      faulty = λ m rule. missing rule r line from to f ok e;
+      taken = λ z. absurd (two z);
+    }
+      where
+        two : _≡_ {A = ℕ} 2 0 → ⊥
+        two z = omega (arith, z)
 
-  pub chose-first : (eqb (to - from) 1 && eqb (getD line from 0) first) ≡ true → right 0 (drop to line) ≡ choiceAfter first second r
-  unfolding choiceAfter
-  chose-first e =
-      ap (right 0) (f .past)
-      ∙ is-first first second (wordOf (fromWord (r .rest))) (pastWord (fromWord (r .rest))) (same first e)
-      ∙ taken (chosen first second) r line from to f ok n
+    pub word-there : (from ≡ to → ⊥) → WordAfter line r (record { from = from; to = to; next = to; wrong = 0 })
+    word-there n = record {
+      order = f .order;
+      within = f .within;
+      some = λ z. omega (arith, n, f .order);
+      faulty = λ m. absurd (m refl);
+      taken = λ z rule. taken-at rule r line from to f ok n;
+    }
 
-  module _ (e : (eqb (to - from) 1 && eqb (getD line from 0) first) ≡ false) where
-    pub chose-second : (eqb (to - from) 1 && eqb (getD line from 0) second) ≡ true → right 1 (drop to line) ≡ choiceAfter first second r
-    unfolding choiceAfter
-    chose-second k =
-        ap (right 1) (f .past)
-        ∙ is-second first second (wordOf (fromWord (r .rest))) (pastWord (fromWord (r .rest))) (same first e) (same second k)
-        ∙ taken (chosen first second) r line from to f ok n
+-- ---- numbers and names
+-- no word is no number
+pub no-number : (base limit : ℕ) (w : List ℕ) → length w ≡ 0 → NoNumber ≡ markedNumber base limit w
+unfolding numberOf
+no-number base limit [] e = refl
+no-number base limit (b ∷ bs) e = absurd (omega (arith, e))
 
-    pub chose-none : (eqb (to - from) 1 && eqb (getD line from 0) second) ≡ false → fault 7 (drop to line) ≡ choiceAfter first second r
-    unfolding choiceAfter
-    chose-none k =
-        ap (fault 7) (f .past)
-        ∙ is-none first second (wordOf (fromWord (r .rest))) (pastWord (fromWord (r .rest))) (same first e) (same second k)
-        ∙ taken (chosen first second) r line from to f ok n
+module _ (base limit : ℕ) (w : List ℕ) where
+  pub behind-mark : getD w 0 0 ≡ 36 → numberOf 16 limit (take (length w - 1) (drop 1 w)) ≡ markedNumber base limit w
+  behind-mark e =
+      let long : length (drop 1 w) ≡ length w - 1 = length-drop 1 w in
+      let whole : take (length w - 1) (drop 1 w) ≡ drop 1 w = take-all (length w - 1) (drop 1 w) (omega (arith, long)) in
+      rw (eq-eqb (getD w 0 0) 36 e) (ap (numberOf 16 limit) whole)
+
+  pub unmarked : (getD w 0 0 ≡ 36 → ⊥) → numberOf base limit w ≡ markedNumber base limit w
+  unmarked n = rw (ne-eqb (getD w 0 0) 36 n)
+
+-- the words that stand for numbers end with the sixth
+pub no-value : (place : ℕ) → (place ≡ 1 → ⊥) → (place ≡ 2 → ⊥) → (place ≡ 3 → ⊥) → (place ≡ 4 → ⊥) → (place ≡ 5 → ⊥) → 0 ≡ valueNumber place
+no-value zero a b c d e = refl
+no-value (suc zero) a b c d e = absurd (a refl)
+no-value (suc (suc zero)) a b c d e = absurd (b refl)
+no-value (suc (suc (suc zero))) a b c d e = absurd (c refl)
+no-value (suc (suc (suc (suc zero)))) a b c d e = absurd (d refl)
+no-value (suc (suc (suc (suc (suc zero))))) a b c d e = absurd (e refl)
+no-value (suc (suc (suc (suc (suc (suc n)))))) a b c d e = refl
+
+-- one of the names, or none
+module _ (count place : ℕ) (rest : List ℕ) where
+  pub is-one : place < count → right place rest ≡ chosen count place rest
+  is-one h = rw (lt-ltb place count h)
+
+  pub is-none : count ≤ place → fault 7 rest ≡ chosen count place rest
+  is-none h = rw (le-ltb place count h)
+
+-- a value that is a word, or a number
+module _ (p : ℕ) (w rest : List ℕ) (e : p ≡ placeIn valueWords w) where
+  pub is-word : p < 6 → right (valueNumber p) rest ≡ valueRule w rest
+  is-word h =
+      rw (lt-ltb (placeIn valueWords w) 6 (subst (λ (q : ℕ). q < 6) e h))
+      (ap (λ (q : ℕ). right (valueNumber q) rest) e)
+
+  pub is-number : 6 ≤ p → judged 4 (markedNumber 10 largest w) rest ≡ valueRule w rest
+  is-number h = rw (le-ltb (placeIn valueWords w) 6 (subst (λ (q : ℕ). 6 ≤ q) e h))

@@ -1,4 +1,4 @@
 pub mod Filling
 pub mod Followed
 pub mod Rows
-pub mod Said
+pub mod Lining

@@ -1,5 +1,6 @@
 pub mod Fill
 pub mod Fnv
+pub mod Following
 pub mod Laws
 pub mod Lines
 pub mod Readings

@@ -1,145 +1,135 @@
--- What a line of a script is: nothing, a call with its arguments, or wrong (oracle/FORMAT.md). Assumes nothing.
+-- What a line of a script says: its name by its place, its arguments by the form that the name has (oracle/FORMAT.md). Assumes nothing.
 use mathlib.Core.Bool.{cond}
 use mathlib.Core.List.{List}
-use Prim.Native.Nat.{ℕ}
-use lib.Dec.{eqb}
+use Prim.Native.Nat.{ℕ, _-_, _/_, _%_}
+use lib.Dec.{eqb, ltb}
 use lib.ListN.{length, getD}
 use Rattle.vrc6_calls.specs.declared.Call.{Call}
 use Rattle.vrc6_calls.specs.declared.Call.the-variants.{CpuRead, CpuWrite, PictureRead, PictureWrite, SoftReset, HardReset, ReadLevel, PageView, ReadForecast}
+use Rattle.text_words.specs.Names.{byteOfNth, codes, placeIn}
 use Rattle.text_words.specs.Words.{fromWord, pastWord, wordOf}
-use Rattle.script_lines.specs.declared.line.Setup.{Setup}
-use Rattle.script_lines.specs.declared.line.Command.{Command}
-use Rattle.script_lines.specs.declared.line.Command.the-variants.{Nothing, Create, Play, Clocks, Registers, Buffers, Dump, Bad}
-use Rattle.script_lines.specs.Readings.{Reading, choiceAfter, numberAfter, right, wrongAfter}
+use Rattle.script_lines.specs.declared.line.Line.{Line}
+use Rattle.script_lines.specs.Readings.{Reading, largest, nameAfter, noneAfter, numberAfter, right, textAfter, valueAfter, wrongAfter}
 
--- the largest 32-bit number
-abbrev pub largest : ℕ
-largest = 4_294_967_295
+-- ---- names and forms
+-- the names of lines: each call by its letter and its word, then what sets up, shows and expects
+abbrev pub lineNames : List ℕ
+lineNames = codes "R read W write P picture-read Q picture-write V view Z reset L level F forecast C clock N S create G H D lend poke expect ="
 
--- a hexadecimal argument
-abbrev pub hexadecimalAfter : (limit : ℕ) → Reading → Reading
-hexadecimalAfter limit r = numberAfter 16 limit 3 r
+-- how many they are; a line of another number is nothing, a blank line or a comment
+abbrev pub lineCount : ℕ
+lineCount = 28
 
--- a decimal argument
-abbrev pub decimalAfter : (limit : ℕ) → Reading → Reading
-decimalAfter limit r = numberAfter 10 limit 4 r
+-- a line's form: a letter for each argument
+abbrev pub lineForms : List ℕ
+lineForms = codes "a a ab ab a a ab ab a a k k - - - - d d ddwddmvx mv ddwddmv - - - ld n n t"
 
--- before the first argument of a call, the text behind its letter
-abbrev pub begun : List ℕ → Reading
-begun text = right 0 text
+-- the names of values: those of the board and its buffers, then what the last call answered, from `view-byte` on
+abbrev pub valueNames : List ℕ
+valueNames =
+    codes
+    "entry picture-entry chr nametable fixed changing layout pulse1 pulse2 saw mode prg-16k prg-8k mirroring revision reload counter prescaler pending enabled after-acknowledge cycle halt sum view-byte view-length refusal byte ticks first-tick last-tick interrupt sounding level level-bits forecast untouched kept"
 
--- a command, unless something is wrong with its line
-abbrev pub unlessWrong : (wrong : ℕ) → Command → Command
-unlessWrong wrong command = cond (eqb wrong 0) command (Bad wrong)
+-- how many they are
+abbrev pub valueCount : ℕ
+valueCount = 38
 
--- a board's setup from its eight arguments
-abbrev pub setupOf : (prg chr writable ram ciram mirroring revision seed : Reading) → Setup
-setupOf prg chr writable ram ciram mirroring revision seed =
+-- a value's form: its place, and the number
+abbrev pub valueForms : List ℕ
+valueForms = codes "aq aq dq dq dq dq fq cq cq cq -q -q -q -q -q -q -q -q -q -q -q -q -q -q dq -q -q -q -q -q -q -q -q -q -q -q -q -q"
+
+-- the fields of a layout, and of a channel
+abbrev pub layoutFields : List ℕ
+layoutFields = codes "prg chr writable ram ciram"
+
+abbrev pub channelFields : List ℕ
+channelFields = codes "enabled volume duty ignore-duty frequency timer step shift accumulator rate"
+
+-- ---- arguments
+-- the argument of a letter: a an address, b a byte, x a hexadecimal number, d a decimal one, m a mirroring, w r or w, v a revision,
+-- k a reset, l a buffer, n a value's name, f a layout's field, c a channel's field, q a value, t the rest of the line; none otherwise
+unfoldable pub argumentBy : (letter : ℕ) → Reading → Reading
+argumentBy letter r =
+    cond (eqb letter 97) (numberAfter 16 65_535 3 r)
+    (cond (eqb letter 98) (numberAfter 16 255 3 r)
+    (cond (eqb letter 120) (numberAfter 16 largest 3 r)
+    (cond (eqb letter 100) (numberAfter 10 largest 4 r)
+    (cond (eqb letter 109) (numberAfter 10 4 4 r)
+    (cond (eqb letter 119) (nameAfter (codes "r w") 2 r)
+    (cond (eqb letter 118) (nameAfter (codes "A B") 2 r)
+    (cond (eqb letter 107) (nameAfter (codes "s h soft hard") 4 r)
+    (cond (eqb letter 108) (nameAfter (codes "fixed changing") 2 r)
+    (cond (eqb letter 110) (nameAfter valueNames valueCount r)
+    (cond (eqb letter 102) (nameAfter layoutFields 5 r)
+    (cond (eqb letter 99) (nameAfter channelFields 10 r)
+    (cond (eqb letter 113) (valueAfter r)
+    (cond (eqb letter 116) (textAfter r)
+    (noneAfter r))))))))))))))
+
+-- the letter of a line's argument behind the first: behind the name of a value those of the value follow
+unfoldable pub letterAt : (what first i : ℕ) → ℕ
+letterAt what first i =
+    cond (eqb (byteOfNth what 0 lineForms) 110) (byteOfNth first (i - 1) valueForms) (byteOfNth what i lineForms)
+
+-- ---- a line
+-- a line from its eight arguments
+abbrev pub lineFrom : (what : ℕ) → (a b c d e f g h : Reading) → Line
+lineFrom what a b c d e f g h =
     record {
-      prg = prg .value;
-      chr = chr .value;
-      «chr_writable» = eqb (writable .value) 1;
-      ram = ram .value;
-      ciram = ciram .value;
-      mirroring = mirroring .value;
-      «revision_b» = eqb (revision .value) 1;
-      seed = seed .value;
+      what = what;
+      a = a .value;
+      b = b .value;
+      c = c .value;
+      d = d .value;
+      e = e .value;
+      f = f .value;
+      g = g .value;
+      h = h .value;
+      wrong = wrongAfter h;
     }
 
--- the command from those arguments
-abbrev pub createdFrom : (prg chr writable ram ciram mirroring revision seed : Reading) → Command
-createdFrom prg chr writable ram ciram mirroring revision seed =
-    unlessWrong (wrongAfter seed) (Create (setupOf prg chr writable ram ciram mirroring revision seed))
+-- a line of a known name, with the text behind it
+unfoldable pub lineBy : (what : ℕ) → List ℕ → Line
+lineBy what text =
+    let a : Reading = argumentBy (byteOfNth what 0 lineForms) (right 0 text) in
+    let next : ℕ → Reading → Reading = λ i r. argumentBy (letterAt what (a .value) i) r in
+    let b : Reading = next 1 a in
+    let c : Reading = next 2 b in
+    let d : Reading = next 3 c in
+    let e : Reading = next 4 d in
+    let f : Reading = next 5 e in
+    let g : Reading = next 6 f in
+    lineFrom what a b c d e f g (next 7 g)
 
--- `N prg chr r|w ram ciram mirroring A|B seed`
-unfoldable pub created : List ℕ → Command
-created text =
-    let prg : Reading = decimalAfter largest (begun text) in
-    let chr : Reading = decimalAfter largest prg in
-    let writable : Reading = choiceAfter 114 119 chr in
-    let ram : Reading = decimalAfter largest writable in
-    let ciram : Reading = decimalAfter largest ram in
-    let mirroring : Reading = decimalAfter 4 ciram in
-    let revision : Reading = choiceAfter 65 66 mirroring in
-    let seed : Reading = hexadecimalAfter largest revision in
-    createdFrom prg chr writable ram ciram mirroring revision seed
+-- a line without arguments that is nothing, or wrong
+abbrev pub lineAlone : (wrong : ℕ) → Line
+lineAlone wrong = record { what = lineCount; a = 0; b = 0; c = 0; d = 0; e = 0; f = 0; g = 0; h = 0; wrong = wrong }
 
--- R, P and V: the calls at an address
-abbrev pub callAt : (letter addr : ℕ) → Call
-callAt letter addr = cond (eqb letter 82) (CpuRead addr) (cond (eqb letter 80) (PictureRead addr) (PageView addr))
-
--- the command from the address
-abbrev pub addressedFrom : (letter : ℕ) → Reading → Command
-addressedFrom letter address = unlessWrong (wrongAfter address) (Play (callAt letter (address .value)))
-
--- `R aaaa`, `P aaaa`, `V aaaa`
-unfoldable pub addressed : (letter : ℕ) → List ℕ → Command
-addressed letter text = addressedFrom letter (hexadecimalAfter 65_535 (begun text))
-
--- W and Q: the calls that write a byte
-abbrev pub writeAt : (letter addr val : ℕ) → Call
-writeAt letter addr val = cond (eqb letter 87) (CpuWrite addr val) (PictureWrite addr val)
-
--- the command from the address and the byte
-abbrev pub byteWrittenFrom : (letter : ℕ) (address byte : Reading) → Command
-byteWrittenFrom letter address byte = unlessWrong (wrongAfter byte) (Play (writeAt letter (address .value) (byte .value)))
-
--- `W aaaa vv`, `Q aaaa vv`
-unfoldable pub byteWritten : (letter : ℕ) → List ℕ → Command
-byteWritten letter text =
-    let address : Reading = hexadecimalAfter 65_535 (begun text) in
-    byteWrittenFrom letter address (hexadecimalAfter 255 address)
-
--- the command from the count
-abbrev pub clockCountFrom : Reading → Command
-clockCountFrom count = unlessWrong (wrongAfter count) (Clocks (count .value))
-
--- `C n`
-unfoldable pub clocksCommand : List ℕ → Command
-clocksCommand text = clockCountFrom (decimalAfter largest (begun text))
-
--- the reset of a kind: soft for 0, hard for 1
-abbrev pub resetCall : ℕ → Call
-resetCall kind = cond (eqb kind 0) SoftReset HardReset
-
--- the command from the kind
-abbrev pub resetFrom : Reading → Command
-resetFrom kind = unlessWrong (wrongAfter kind) (Play (resetCall (kind .value)))
-
--- `Z s`, `Z h`
-unfoldable pub resetOf : List ℕ → Command
-resetOf text = resetFrom (choiceAfter 115 104 (begun text))
-
--- what is wrong with a call that takes nothing
-abbrev pub wrongAlone : List ℕ → ℕ
-wrongAlone text = wrongAfter (begun text)
-
--- the call that a letter names, with the text behind it: N, R, P, V, W, Q, C, Z, L, F, G, H, D
-unfoldable pub callOf : (letter : ℕ) → List ℕ → Command
-callOf letter text =
-    cond (eqb letter 78) (created text)
-    (cond (eqb letter 82) (addressed letter text)
-    (cond (eqb letter 80) (addressed letter text)
-    (cond (eqb letter 86) (addressed letter text)
-    (cond (eqb letter 87) (byteWritten letter text)
-    (cond (eqb letter 81) (byteWritten letter text)
-    (cond (eqb letter 67) (clocksCommand text)
-    (cond (eqb letter 90) (resetOf text)
-    (cond (eqb letter 76) (unlessWrong (wrongAlone text) (Play ReadLevel))
-    (cond (eqb letter 70) (unlessWrong (wrongAlone text) (Play ReadForecast))
-    (cond (eqb letter 71) (unlessWrong (wrongAlone text) Registers)
-    (cond (eqb letter 72) (unlessWrong (wrongAlone text) Buffers)
-    (cond (eqb letter 68) (unlessWrong (wrongAlone text) Dump)
-    (Bad 1)))))))))))))
-
--- a line by its first word: nothing if there is none or it begins with `#`, otherwise the call of its one letter
-abbrev pub lineCommand : (word rest : List ℕ) → Command
-lineCommand word rest =
-    cond (eqb (length word) 0) Nothing
-    (cond (eqb (getD word 0 0) 35) Nothing
-    (cond (eqb (length word) 1) (callOf (getD word 0 0) rest)
-    (Bad 1)))
+-- a line by its first word: nothing if there is none or it begins with `#`, wrong if it is no line's name
+abbrev pub lineWith : (word rest : List ℕ) → Line
+lineWith word rest =
+    cond (eqb (length word) 0) (lineAlone 0)
+    (cond (eqb (getD word 0 0) 35) (lineAlone 0)
+    (cond (ltb (placeIn lineNames word) lineCount) (lineBy (placeIn lineNames word) rest)
+    (lineAlone 1)))
 
 -- what a line says
-unfoldable pub commandOf : List ℕ → Command
-commandOf line = lineCommand (wordOf (fromWord line)) (pastWord (fromWord line))
+unfoldable pub lineOf : List ℕ → Line
+lineOf line = lineWith (wordOf (fromWord line)) (pastWord (fromWord line))
+
+-- ---- calls
+-- the call of a pair of names, a letter and its word, with the line's first two arguments
+unfoldable pub callBy : (pair a b : ℕ) → Call
+callBy pair a b =
+    cond (eqb pair 0) (CpuRead (a % 65_536))
+    (cond (eqb pair 1) (CpuWrite (a % 65_536) (b % 256))
+    (cond (eqb pair 2) (PictureRead (a % 65_536))
+    (cond (eqb pair 3) (PictureWrite (a % 65_536) (b % 256))
+    (cond (eqb pair 4) (PageView (a % 65_536))
+    (cond (eqb pair 5) (cond (eqb (a % 2) 0) SoftReset HardReset)
+    (cond (eqb pair 6) ReadLevel
+    ReadForecast))))))
+
+-- the call of a line
+abbrev pub callOf : (what a b : ℕ) → Call
+callOf what a b = callBy (what / 2) a b

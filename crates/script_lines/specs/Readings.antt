@@ -1,12 +1,13 @@
--- A call's arguments, read one after the other from a line (oracle/FORMAT.md). Assumes nothing.
-use mathlib.Core.Bool.{Bool, cond, _&&_}
-use mathlib.Core.List.{List}
+-- A line's arguments, read one after the other (oracle/FORMAT.md). Assumes nothing.
+use mathlib.Core.Bool.{cond}
+use mathlib.Core.List.{List, [], _∷_}
 use Prim.Native.Nat.{ℕ}
-use lib.Dec.{eqb}
+use lib.Dec.{eqb, ltb}
 use lib.ListN.{length, drop, getD}
 use Rattle.text_words.specs.declared.number.Number.{Number}
 use Rattle.text_words.specs.declared.number.Number.the-variants.{Value, NoNumber, TooLarge}
 use Rattle.text_words.specs.Numbers.{numberOf}
+use Rattle.text_words.specs.Names.{codes, placeIn}
 use Rattle.text_words.specs.Words.{fromWord, pastWord, wordOf}
 use Rattle.script_lines.specs.declared.arguments.Argument.{Argument}
 
@@ -24,7 +25,8 @@ readingIn line a = record { value = a .value; rest = drop (a .next) line; wrong 
 abbrev pub right : (value : ℕ) → List ℕ → Reading
 right value rest = record { value = value; rest = rest; wrong = 0 }
 
--- something wrong: 1 no such call, 2 nothing there, 3 no hexadecimal number, 4 no decimal number, 5 too large, 6 too many, 7 none of two letters
+-- something wrong: 1 no such line, 2 nothing there, 3 no hexadecimal number, 4 no decimal number, 5 too large, 6 too many words,
+-- 7 none of the words that may stand there
 abbrev pub fault : (wrong : ℕ) → List ℕ → Reading
 fault wrong rest = record { value = 0; rest = rest; wrong = wrong }
 
@@ -43,22 +45,50 @@ judged none (Value v) rest = right v rest
 judged none NoNumber rest = fault none rest
 judged none TooLarge rest = fault 5 rest
 
+-- a word's number, hexadecimal behind `$`
+abbrev pub markedNumber : (base limit : ℕ) → List ℕ → Number
+markedNumber base limit word = cond (eqb (getD word 0 0) 36) (numberOf 16 limit (drop 1 word)) (numberOf base limit word)
+
 -- a number in a base, up to a limit
 unfoldable pub numberAfter : (base limit none : ℕ) → Reading → Reading
-numberAfter base limit none r = following (λ (word rest : List ℕ). judged none (numberOf base limit word) rest) r
+numberAfter base limit none r = following (λ (word rest : List ℕ). judged none (markedNumber base limit word) rest) r
 
--- a word is this one letter
-abbrev pub isLetter : ℕ → List ℕ → Bool
-isLetter letter word = eqb (length word) 1 && eqb (getD word 0 0) letter
+-- the place of a name among so many, or nothing of them
+abbrev pub chosen : (count place : ℕ) → List ℕ → Reading
+chosen count place rest = cond (ltb place count) (right place rest) (fault 7 rest)
 
--- which of two letters a word is, 0 or 1
-abbrev pub chosen : (first second : ℕ) → List ℕ → List ℕ → Reading
-chosen first second word rest = cond (isLetter first word) (right 0 rest) (cond (isLetter second word) (right 1 rest) (fault 7 rest))
+-- one of so many names, by its place
+unfoldable pub nameAfter : (names : List ℕ) → (count : ℕ) → Reading → Reading
+nameAfter names count r = following (λ (word rest : List ℕ). chosen count (placeIn names word) rest) r
 
--- one of two letters
-unfoldable pub choiceAfter : (first second : ℕ) → Reading → Reading
-choiceAfter first second r = following (chosen first second) r
+-- the largest 32-bit number
+abbrev pub largest : ℕ
+largest = 4_294_967_295
 
--- what is wrong with a call whose last argument this is: a further word is one too many
+-- the words that stand for numbers: no 0, yes 1, silent 1, held 2, playing 3, none the largest
+abbrev pub valueWords : List ℕ
+valueWords = codes "no yes silent held playing none"
+
+-- the number of such a word, by its place
+abbrev pub valueNumber : (place : ℕ) → ℕ
+valueNumber place = getD (0 ∷ 1 ∷ 1 ∷ 2 ∷ 3 ∷ largest ∷ []) place 0
+
+-- a value: one of those words, or a decimal number
+abbrev pub valueRule : List ℕ → List ℕ → Reading
+valueRule word rest =
+    cond (ltb (placeIn valueWords word) 6) (right (valueNumber (placeIn valueWords word)) rest) (judged 4 (markedNumber 10 largest word) rest)
+
+unfoldable pub valueAfter : Reading → Reading
+valueAfter r = following valueRule r
+
+-- no argument
+abbrev pub noneAfter : Reading → Reading
+noneAfter r = record { value = 0; rest = r .rest; wrong = r .wrong }
+
+-- the rest of the line, whatever it is
+abbrev pub textAfter : Reading → Reading
+textAfter r = record { value = 0; rest = []; wrong = r .wrong }
+
+-- what is wrong with a line whose last argument this is: a further word is one too many
 unfoldable pub wrongAfter : Reading → ℕ
 wrongAfter r = cond (eqb (r .wrong) 0) (cond (eqb (length (wordOf (fromWord (r .rest)))) 0) 0 6) (r .wrong)

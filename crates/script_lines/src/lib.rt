@@ -5,6 +5,6 @@ pub mod fill;
 pub mod fnv;
 pub mod line;
 
-pub use line::Command;
-pub use line::Setup;
+pub use line::Line;
+pub use line::call_of;
 pub use line::parse;

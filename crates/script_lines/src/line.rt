@@ -1,202 +1,192 @@
-// A line of a script is nothing, a call with its arguments, or wrong.
+// A line of a script: its name by its place in a list, and its arguments by the form that the name has.
 use crate::arguments::Argument;
 use crate::arguments::NO_DECIMAL;
 use crate::arguments::NO_HEXADECIMAL;
-use crate::arguments::UNKNOWN_CALL;
-use crate::arguments::choice_after;
+use crate::arguments::UNKNOWN_LINE;
+use crate::arguments::name_after;
+use crate::arguments::none_after;
 use crate::arguments::number_after;
 use crate::arguments::start;
+use crate::arguments::text_after;
+use crate::arguments::value_after;
 use crate::arguments::wrong_after;
+use text_words::names::byte_of_nth;
+use text_words::names::place_in;
 use text_words::next_word;
 use vrc6_calls::Call;
 ghost use mathlib.Core.Path.{_≡_};
-ghost use Prim.Native.Nat.{_≤_};
+ghost use Prim.Native.Nat.{_<_};
 ghost use lib.ListN.{drop};
+ghost use Rattle.text_words.specs.Names.{byteOfNth};
 ghost use Rattle.script_lines.specs.Readings.{readingIn};
-ghost use Rattle.script_lines.specs.Lines.{addressed, byteWritten, callAt, callOf, clocksCommand, commandOf, created, decimalAfter, hexadecimalAfter, resetCall, resetOf, unlessWrong, writeAt, wrongAlone};
+ghost use Rattle.script_lines.specs.Lines.{argumentBy, callOf, letterAt, lineAlone, lineBy, lineForms, lineOf, valueForms};
 
-// What a board is created from. Mirroring is 0 to 4 in the Rust's order; the seed fills the buffers.
-pub struct Setup {
-    pub prg: u32,
-    pub chr: u32,
-    pub chr_writable: bool,
-    pub ram: u32,
-    pub ciram: u32,
-    pub mirroring: u8,
-    pub revision_b: bool,
-    pub seed: u32,
+// The place of a line's name, its arguments, and what is wrong with it.
+pub struct Line {
+    pub what: u8,
+    pub a: u32,
+    pub b: u32,
+    pub c: u32,
+    pub d: u32,
+    pub e: u32,
+    pub f: u32,
+    pub g: u32,
+    pub h: u32,
+    pub wrong: u8,
 }
 
-pub enum Command {
-    // A blank line or a comment.
-    Nothing,
-    Create(Setup),
-    Play(Call),
-    Clocks(u32),
-    Registers,
-    Buffers,
-    Dump,
-    // The number says what is wrong.
-    Bad(u8),
-}
-
-fn hexadecimal_after(line: &[u8], before: Argument, limit: u32) -> Argument
-    ensures { λ r. ⌜ readingIn (now (line .entry)) r ≡ hexadecimalAfter limit (readingIn (now (line .entry)) before) ⌝ }
-    ensures { λ r. ⌜ r .value ≤ limit ⌝ }
-{
-    number_after(line, before, 16, limit, NO_HEXADECIMAL)
-}
-
-fn decimal_after(line: &[u8], before: Argument, limit: u32) -> Argument
-    ensures { λ r. ⌜ readingIn (now (line .entry)) r ≡ decimalAfter limit (readingIn (now (line .entry)) before) ⌝ }
-    ensures { λ r. ⌜ r .value ≤ limit ⌝ }
-{
-    number_after(line, before, 10, limit, NO_DECIMAL)
-}
-
-// A command, unless something is wrong with its line.
-fn unless_wrong(wrong: u8, command: Command) -> Command
-    ensures { λ r. ⌜ r ≡ unlessWrong wrong command ⌝ }
-{
-    if wrong == 0 {
-        return command;
-    }
-    Command::Bad(wrong)
-}
-
-fn create(line: &[u8], at: usize) -> Command
-    ensures { λ r. ⌜ r ≡ created (drop at (now (line .entry))) ⌝ }
-{
-    let prg = decimal_after(line, start(at), u32::MAX);
-    let chr = decimal_after(line, prg, u32::MAX);
-    let writable = choice_after(line, chr, b'r', b'w');
-    let ram = decimal_after(line, writable, u32::MAX);
-    let ciram = decimal_after(line, ram, u32::MAX);
-    let mirroring = decimal_after(line, ciram, 4);
-    let revision = choice_after(line, mirroring, b'A', b'B');
-    let seed = hexadecimal_after(line, revision, u32::MAX);
-    let setup = Setup {
-        prg: prg.value,
-        chr: chr.value,
-        chr_writable: writable.value == 1,
-        ram: ram.value,
-        ciram: ciram.value,
-        mirroring: mirroring.value as u8,
-        revision_b: revision.value == 1,
-        seed: seed.value,
-    };
-    unless_wrong(wrong_after(line, seed), Command::Create(setup))
-}
-
-// CPU read, picture read and page view: the call that a letter names at an address.
-fn call_at(letter: u8, addr: u16) -> Call
-    ensures { λ r. ⌜ r ≡ callAt letter addr ⌝ }
-{
-    if letter == b'R' {
-        return Call::CpuRead(addr);
-    }
-    if letter == b'P' {
-        return Call::PictureRead(addr);
-    }
-    Call::PageView(addr)
-}
-
-fn at_address(line: &[u8], at: usize, letter: u8) -> Command
-    ensures { λ r. ⌜ r ≡ addressed letter (drop at (now (line .entry))) ⌝ }
-{
-    let address = hexadecimal_after(line, start(at), 0xFFFF);
-    let call = call_at(letter, address.value as u16);
-    unless_wrong(wrong_after(line, address), Command::Play(call))
-}
-
-// CPU write and picture write.
-fn write_at(letter: u8, addr: u16, val: u8) -> Call
-    ensures { λ r. ⌜ r ≡ writeAt letter addr val ⌝ }
-{
-    if letter == b'W' {
-        return Call::CpuWrite(addr, val);
-    }
-    Call::PictureWrite(addr, val)
-}
-
-fn with_byte(line: &[u8], at: usize, letter: u8) -> Command
-    ensures { λ r. ⌜ r ≡ byteWritten letter (drop at (now (line .entry))) ⌝ }
-{
-    let address = hexadecimal_after(line, start(at), 0xFFFF);
-    let byte = hexadecimal_after(line, address, 0xFF);
-    let call = write_at(letter, address.value as u16, byte.value as u8);
-    unless_wrong(wrong_after(line, byte), Command::Play(call))
-}
-
-fn clocks(line: &[u8], at: usize) -> Command
-    ensures { λ r. ⌜ r ≡ clocksCommand (drop at (now (line .entry))) ⌝ }
-{
-    let count = decimal_after(line, start(at), u32::MAX);
-    unless_wrong(wrong_after(line, count), Command::Clocks(count.value))
-}
-
-// Soft for 0, hard for 1.
-fn reset_call(kind: u32) -> Call
-    ensures { λ r. ⌜ r ≡ resetCall kind ⌝ }
-{
-    if kind == 0 {
-        return Call::SoftReset;
-    }
-    Call::HardReset
-}
-
-fn reset(line: &[u8], at: usize) -> Command
-    ensures { λ r. ⌜ r ≡ resetOf (drop at (now (line .entry))) ⌝ }
-{
-    let kind = choice_after(line, start(at), b's', b'h');
-    let call = reset_call(kind.value);
-    unless_wrong(wrong_after(line, kind), Command::Play(call))
-}
-
-// The calls that take nothing.
-fn alone(line: &[u8], at: usize, command: Command) -> Command
-    ensures { λ r. ⌜ r ≡ unlessWrong (wrongAlone (drop at (now (line .entry)))) command ⌝ }
-{
-    unless_wrong(wrong_after(line, start(at)), command)
-}
-
-// The call that a letter names, its arguments from `at` on.
-fn call_of(letter: u8, line: &[u8], at: usize) -> Command
-    ensures { λ r. ⌜ r ≡ callOf letter (drop at (now (line .entry))) ⌝ }
+// The argument of a letter.
+fn argument(line: &[u8], before: Argument, letter: u8) -> Argument
+    ensures { λ r. ⌜ readingIn (now (line .entry)) r ≡ argumentBy letter (readingIn (now (line .entry)) before) ⌝ }
 {
     match letter {
-        b'N' => create(line, at),
-        b'R' => at_address(line, at, letter),
-        b'P' => at_address(line, at, letter),
-        b'V' => at_address(line, at, letter),
-        b'W' => with_byte(line, at, letter),
-        b'Q' => with_byte(line, at, letter),
-        b'C' => clocks(line, at),
-        b'Z' => reset(line, at),
-        b'L' => alone(line, at, Command::Play(Call::ReadLevel)),
-        b'F' => alone(line, at, Command::Play(Call::ReadForecast)),
-        b'G' => alone(line, at, Command::Registers),
-        b'H' => alone(line, at, Command::Buffers),
-        b'D' => alone(line, at, Command::Dump),
-        _ => Command::Bad(UNKNOWN_CALL),
+        b'a' => number_after(line, before, 16, 0xFFFF, NO_HEXADECIMAL),
+        b'b' => number_after(line, before, 16, 0xFF, NO_HEXADECIMAL),
+        b'x' => number_after(line, before, 16, u32::MAX, NO_HEXADECIMAL),
+        b'd' => number_after(line, before, 10, u32::MAX, NO_DECIMAL),
+        b'm' => number_after(line, before, 10, 4, NO_DECIMAL),
+        b'w' => name_after(line, before, b"r w", 2),
+        b'v' => name_after(line, before, b"A B", 2),
+        b'k' => name_after(line, before, b"s h soft hard", 4),
+        b'l' => name_after(line, before, b"fixed changing", 2),
+        b'n' => name_after(
+            line,
+            before,
+            b"entry picture-entry chr nametable fixed changing layout pulse1 pulse2 saw mode prg-16k prg-8k mirroring revision reload counter prescaler pending enabled after-acknowledge cycle halt sum view-byte view-length refusal byte ticks first-tick last-tick interrupt sounding level level-bits forecast untouched kept",
+            38,
+        ),
+        b'f' => name_after(line, before, b"prg chr writable ram ciram", 5),
+        b'c' => name_after(
+            line,
+            before,
+            b"enabled volume duty ignore-duty frequency timer step shift accumulator rate",
+            10,
+        ),
+        b'q' => value_after(line, before),
+        b't' => text_after(line, before),
+        _ => none_after(line, before),
     }
 }
 
-pub fn parse(line: &[u8]) -> Command
-    ensures { λ r. ⌜ r ≡ commandOf (now (line .entry)) ⌝ }
+// A letter of a line's form.
+fn letter_of_line(what: usize, i: usize) -> u8
+    ensures { λ r. ⌜ r ≡ byteOfNth what i lineForms ⌝ }
+{
+    byte_of_nth(
+        b"a a ab ab a a ab ab a a k k - - - - d d ddwddmvx mv ddwddmv - - - ld n n t",
+        what,
+        i,
+    )
+}
+
+// A letter of a value's form.
+fn letter_of_value(value: usize, i: usize) -> u8
+    ensures { λ r. ⌜ r ≡ byteOfNth value i valueForms ⌝ }
+{
+    byte_of_nth(
+        b"aq aq dq dq dq dq fq cq cq cq -q -q -q -q -q -q -q -q -q -q -q -q -q -q dq -q -q -q -q -q -q -q -q -q -q -q -q -q",
+        value,
+        i,
+    )
+}
+
+// The letter of a line's argument behind the first: behind the name of a value those of the value follow.
+fn letter_at(what: usize, first: u32, i: usize) -> u8
+    requires { ⌜ 0 < i ⌝ }
+    ensures { λ r. ⌜ r ≡ letterAt what first i ⌝ }
+{
+    if letter_of_line(what, 0) == b'n' {
+        return letter_of_value(first as usize, i - 1);
+    }
+    letter_of_line(what, i)
+}
+
+// The arguments of a line of this name, which begin at a place.
+fn line_by(line: &[u8], what: usize, at: usize) -> Line
+    requires { ⌜ what < 256 ⌝ }
+    ensures { λ r. ⌜ r ≡ lineBy what (drop at (now (line .entry))) ⌝ }
+{
+    let a = argument(line, start(at), letter_of_line(what, 0));
+    let b = argument(line, a, letter_at(what, a.value, 1));
+    let c = argument(line, b, letter_at(what, a.value, 2));
+    let d = argument(line, c, letter_at(what, a.value, 3));
+    let e = argument(line, d, letter_at(what, a.value, 4));
+    let f = argument(line, e, letter_at(what, a.value, 5));
+    let g = argument(line, f, letter_at(what, a.value, 6));
+    let h = argument(line, g, letter_at(what, a.value, 7));
+    Line {
+        what: what as u8,
+        a: a.value,
+        b: b.value,
+        c: c.value,
+        d: d.value,
+        e: e.value,
+        f: f.value,
+        g: g.value,
+        h: h.value,
+        wrong: wrong_after(line, h),
+    }
+}
+
+// A line without arguments: nothing, or wrong.
+fn alone(wrong: u8) -> Line
+    ensures { λ r. ⌜ r ≡ lineAlone wrong ⌝ }
+{
+    Line {
+        what: 28,
+        a: 0,
+        b: 0,
+        c: 0,
+        d: 0,
+        e: 0,
+        f: 0,
+        g: 0,
+        h: 0,
+        wrong,
+    }
+}
+
+pub fn parse(line: &[u8]) -> Line
+    ensures { λ r. ⌜ r ≡ lineOf (now (line .entry)) ⌝ }
 {
     let word = next_word(line, 0);
     let from = word.from;
     let to = word.to;
     if from == to {
-        return Command::Nothing;
+        return alone(0);
     }
-    let letter = line[from];
-    if letter == b'#' {
-        return Command::Nothing;
+    if line[from] == b'#' {
+        return alone(0);
     }
-    if to - from == 1 {
-        return call_of(letter, line, to);
+    let what = place_in(
+        b"R read W write P picture-read Q picture-write V view Z reset L level F forecast C clock N S create G H D lend poke expect =",
+        &line[from..to],
+    );
+    if what < 28 {
+        return line_by(line, what, to);
     }
-    Command::Bad(UNKNOWN_CALL)
+    alone(UNKNOWN_LINE)
+}
+
+// The call of a line.
+pub fn call_of(what: u8, a: u32, b: u32) -> Call
+    ensures { λ r. ⌜ r ≡ callOf what a b ⌝ }
+{
+    let addr = (a % 65536) as u16;
+    let val = (b % 256) as u8;
+    match what / 2 {
+        0 => Call::CpuRead(addr),
+        1 => Call::CpuWrite(addr, val),
+        2 => Call::PictureRead(addr),
+        3 => Call::PictureWrite(addr, val),
+        4 => Call::PageView(addr),
+        5 => {
+            if a % 2 == 0 {
+                return Call::SoftReset;
+            }
+            Call::HardReset
+        }
+        6 => Call::ReadLevel,
+        _ => Call::ReadForecast,
+    }
 }

@@ -2,65 +2,59 @@
 use mathlib.Core.Path.{ap, _∙_}
 use mathlib.Core.List.{List}
 use Prim.Native.Nat.{ℕ}
-use borrow.Author.Needs.{needs}
-use denote.Ref.{now}
 use lib.ListN.{drop}
-use Rattle.text_words.specs.Numbers.{numberOf}
-use Rattle.script_lines.specs.Readings.{readingIn, judged}
-use Rattle.script_lines.proofs.Followed.{carried, missing, taken-at, numbered}
+use denote.Ref.{now}
+use Rattle.text_words.specs.declared.number.Number.{Number}
+use Rattle.script_lines.specs.Readings.{Reading, judged, markedNumber, numberAfter, readingIn}
+use borrow.Author.Needs.{needs}
 use Rattle.script_lines.proofs.arguments.number_after.Statement.{statement}
 use Rattle.script_lines.proofs.arguments.number_after.Tie as tie
+
+word-after-requires : tie.Need-word-after-requires
+word-after-requires c κs = search needs
 
 fault-requires : tie.Need-fault-requires
 fault-requires c κs = search needs
 
 returns : tie.Need-returns
-returns c = numbered _ _ _ _ _
-    (ap (readingIn (now (c .before .before .before .before .args .line))) (c .fault .ensures) ∙ carried (λ (word rest : List ℕ). judged (c .before .before .before .before .args .none) (numberOf (c .before .before .before .before .args .base) (c .before .before .before .before .args .limit) word) rest) (readingIn (now (c .before .before .before .before .args .line)) (c .before .before .before .before .args .before)) (c .before .if1 .taken))
+unfolding numberAfter
+returns c = 
+    let R : List ℕ → List ℕ → Reading = λ word rest. judged (c .before .before .before .before .before .args .none) (markedNumber (c .before .before .before .before .before .args .base) (c .before .before .before .before .before .args .limit) word) rest in
+    ap (readingIn (now (c .before .before .before .before .before .args .line))) (c .fault .ensures) ∙ c .before .before .before .word-after .ensures .faulty (c .before .if1 .taken) R
 
-next-word-requires : tie.Need-next-word-requires
-next-word-requires c κs = search needs
+sub-marked : tie.Need-sub-marked
+sub-marked c = search needs
 
-fault-requires-2 : tie.Need-fault-requires-2
-fault-requires-2 c κs = search needs
+part-marked-start : tie.Need-part-marked-start
+part-marked-start c = search needs
 
-returns-2 : tie.Need-returns-2
-returns-2 c = numbered _ _ _ _ _
-    (ap (readingIn (now (c .before .before .before .before .before .before .args .line))) (c .fault2 .ensures) ∙ missing (λ (word rest : List ℕ). judged (c .before .before .before .before .before .before .args .none) (numberOf (c .before .before .before .before .before .before .args .base) (c .before .before .before .before .before .before .args .limit) word) rest) (readingIn (now (c .before .before .before .before .before .before .args .line)) (c .before .before .before .before .before .before .args .before)) _ _ _ (c .before .before .next-word .ensures) (c .before .before .before .if1 .left) (c .before .if2 .taken))
+part-marked-end : tie.Need-part-marked-end
+part-marked-end c = search needs
 
-sub-in-base : tie.Need-sub-in-base
-sub-in-base c = search needs
-
-part-in-base-start : tie.Need-part-in-base-start
-part-in-base-start c = search needs
-
-part-in-base-end : tie.Need-part-in-base-end
-part-in-base-end c = search needs
-
-in-base-requires : tie.Need-in-base-requires
-in-base-requires c κs = search needs
+marked-requires : tie.Need-marked-requires
+marked-requires c κs = search needs
 
 of-number-requires : tie.Need-of-number-requires
 of-number-requires c κs = search needs
 
-returns-3 : tie.Need-returns-3
-returns-3 c = numbered _ _ _ _ _
-    (c .of-number .ensures
-    ∙ ap (λ n. judged (c .before .before .before .before .before .before .before .before .args .none) n (drop (c .before .before .before .before .next-word .result .to) (now (c .before .before .before .before .before .before .before .before .args .line)))) (c .before .in-base .ensures)
-    ∙ taken-at (λ (word rest : List ℕ). judged (c .before .before .before .before .before .before .before .before .args .none) (numberOf (c .before .before .before .before .before .before .before .before .args .base) (c .before .before .before .before .before .before .before .before .args .limit) word) rest) (readingIn (now (c .before .before .before .before .before .before .before .before .args .line)) (c .before .before .before .before .before .before .before .before .args .before)) _ _ _ (c .before .before .before .before .next-word .ensures) (c .before .before .before .before .before .if1 .left) (c .before .before .before .if2 .left))
+returns-2 : tie.Need-returns-2
+unfolding numberAfter
+returns-2 c = 
+    let R : List ℕ → List ℕ → Reading = λ word rest. judged (c .before .before .before .before .before .before .before .args .none) (markedNumber (c .before .before .before .before .before .before .before .args .base) (c .before .before .before .before .before .before .before .args .limit) word) rest in
+    c .of-number .ensures
+    ∙ ap (λ (n : Number). judged (c .before .before .before .before .before .before .before .args .none) n (drop (c .before .before .before .before .before .word-after .result .next) (now (c .before .before .before .before .before .before .before .args .line)))) (c .before .marked .ensures)
+    ∙ c .before .before .before .before .before .word-after .ensures .taken (c .before .before .before .if1 .left) R
 
 pub number-after-spec : {M : Type 1} → statement M
 number-after-spec =
     tie.close
     (tie.spec
+    word-after-requires
     fault-requires
     returns
-    next-word-requires
-    fault-requires-2
-    returns-2
-    sub-in-base
-    part-in-base-start
-    part-in-base-end
-    in-base-requires
+    sub-marked
+    part-marked-start
+    part-marked-end
+    marked-requires
     of-number-requires
-    returns-3)
+    returns-2)

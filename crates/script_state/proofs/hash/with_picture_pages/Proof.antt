@@ -1,0 +1,54 @@
+-- `with_picture_pages` is safe and ends. Assumes nothing.
+use Prim.Native.Nat.{_≤_, _-_}
+use borrow.Author.Needs.{needs}
+use Rattle.script_state.proofs.hash.with_picture_pages.Statement.{statement}
+use Rattle.script_state.proofs.hash.with_picture_pages.Tie as tie
+
+abbrev Inv-loop : tie.InvT-loop
+Inv-loop hash pages h₀ i₀ h i = i ≤ 16
+
+abbrev μ-loop : tie.MeasureT-loop
+μ-loop hash pages h₀ i₀ h i = 16 - i
+
+loop-holds : tie.Need-loop-holds Inv-loop μ-loop
+loop-holds c = search needs
+
+mul-page : tie.Need-mul-page Inv-loop μ-loop
+mul-page c = search needs
+
+array-copy-out-page : tie.Need-array-copy-out-page Inv-loop μ-loop
+array-copy-out-page c = search needs
+
+bits-requires : tie.Need-bits-requires Inv-loop μ-loop
+bits-requires c κs = search needs
+
+fnv-word-requires : tie.Need-fnv-word-requires Inv-loop μ-loop
+fnv-word-requires c κs = search needs
+
+add-i : tie.Need-add-i Inv-loop μ-loop
+add-i c = search needs
+
+loop-less : tie.Need-loop-less Inv-loop μ-loop
+loop-less c = search needs
+
+loop-again : tie.Need-loop-again Inv-loop μ-loop
+loop-again c = search needs
+
+returns : tie.Need-returns Inv-loop μ-loop
+returns c = search needs
+
+pub with-picture-pages-spec : {M : Type 1} → statement M
+with-picture-pages-spec =
+    tie.close
+    (tie.spec
+    Inv-loop
+    μ-loop
+    loop-holds
+    mul-page
+    array-copy-out-page
+    bits-requires
+    fnv-word-requires
+    add-i
+    loop-less
+    loop-again
+    returns)

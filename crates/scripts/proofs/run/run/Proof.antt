@@ -1,0 +1,59 @@
+-- `run` is safe and ends. Assumes nothing.
+use borrow.Author.Needs.{needs}
+use Rattle.scripts.proofs.run.run.Statement.{statement}
+use Rattle.scripts.proofs.run.run.Tie as tie
+
+abbrev Inv-loop : tie.InvT-loop
+Inv-loop fd name fixed₀ changing₀ input₀ out₀ answers full session₀ turns₀ fixed changing input out session turns =
+    Unit {0}
+
+abbrev μ-loop : tie.MeasureT-loop
+μ-loop fd name fixed₀ changing₀ input₀ out₀ answers full session₀ turns₀ fixed changing input out session turns =
+    turns
+
+new-requires : tie.Need-new-requires Inv-loop μ-loop
+new-requires c κs = search needs
+
+loop-holds : tie.Need-loop-holds Inv-loop μ-loop
+loop-holds c = search needs
+
+turn-requires : tie.Need-turn-requires Inv-loop μ-loop
+turn-requires c κs = search needs
+
+finish-requires : tie.Need-finish-requires Inv-loop μ-loop
+finish-requires c κs = search needs
+
+returns : tie.Need-returns Inv-loop μ-loop
+returns c = search needs
+
+sub-turns : tie.Need-sub-turns Inv-loop μ-loop
+sub-turns c = search needs
+
+loop-less : tie.Need-loop-less Inv-loop μ-loop
+loop-less c = search needs
+
+loop-again : tie.Need-loop-again Inv-loop μ-loop
+loop-again c = search needs
+
+finish-requires-2 : tie.Need-finish-requires-2 Inv-loop μ-loop
+finish-requires-2 c κs = search needs
+
+returns-2 : tie.Need-returns-2 Inv-loop μ-loop
+returns-2 c = search needs
+
+pub run-spec : {M : Type 1} → statement M
+run-spec =
+    tie.close
+    (tie.spec
+    Inv-loop
+    μ-loop
+    new-requires
+    loop-holds
+    turn-requires
+    finish-requires
+    returns
+    sub-turns
+    loop-less
+    loop-again
+    finish-requires-2
+    returns-2)

@@ -1,0 +1,114 @@
+// Calls of the board that a line makes, and what it sets.
+use crate::clocks::clock_times;
+use crate::session::Session;
+use script_lines::fnv::FNV_START;
+use script_lines::fnv::fnv;
+use script_state::hash::board_hash;
+use script_state::poke::board_with;
+use script_state::told::Told;
+use vrc6::Board;
+use vrc6_calls::Call;
+use vrc6_calls::step;
+
+// What a page view shows: its length and its hash.
+fn with_view(mut told: Told, addr: u16, view: &[u8]) -> Told {
+    told.view_at = addr;
+    told.view_hash = fnv(FNV_START, view);
+    if view.len() == 1024 {
+        told.view_length = 1024;
+    }
+    told
+}
+
+fn viewed<'a>(told: Told, board: Board, fixed: &'a [u8], changing: &'a [u8], addr: u16) -> Told {
+    with_view(told, addr, board.page_view(fixed, changing, addr))
+}
+
+// The bytes of a page view are lent back by the call itself.
+fn told_of<'a>(told: Told, board: Board, fixed: &'a [u8], changing: &'a [u8], call: Call) -> Told {
+    match call {
+        Call::PageView(addr) => viewed(told, board, fixed, changing, addr),
+        _ => told,
+    }
+}
+
+pub fn play(session: Session, fixed: &[u8], changing: &mut [u8], call: Call) -> Session {
+    let n = session.fixed;
+    let m = session.changing;
+    if n <= fixed.len() {
+        if m <= changing.len() {
+            let stepped = step(session.board, &fixed[0..n], &mut changing[0..m], call);
+            let board = stepped.board;
+            let answer = stepped.answer;
+            let told = told_of(Told::of(answer), board, &fixed[0..n], &changing[0..m], call);
+            let mut next = session;
+            next.board = board;
+            next.told = told;
+            return next;
+        }
+    }
+    session
+}
+
+pub fn play_clocks(session: Session, n: u32) -> Session {
+    let clocks = clock_times(session.board, n);
+    let board = clocks.board;
+    let told = clocks.told;
+    let mut next = session;
+    next.board = board;
+    next.told = told;
+    next
+}
+
+// The hashes that `untouched` and `kept` compare with.
+pub fn marked(mut session: Session, changing: &[u8]) -> Session {
+    session.board_mark = board_hash(session.board);
+    let m = session.changing;
+    if m <= changing.len() {
+        session.changing_mark = fnv(FNV_START, &changing[0..m]);
+    }
+    session
+}
+
+// Lends so many bytes of a buffer, if it has them: 0 is the fixed one.
+pub fn lend(mut session: Session, fixed: &[u8], changing: &[u8], buffer: u32, length: u32) -> Session {
+    let n = length as usize;
+    if buffer == 0 {
+        if n <= fixed.len() {
+            session.fixed = n;
+        }
+        return session;
+    }
+    if n <= changing.len() {
+        session.changing = n;
+    }
+    session
+}
+
+fn poke_byte(bytes: &mut [u8], at: u32, number: u32) {
+    let i = at as usize;
+    if i < bytes.len() {
+        bytes[i] = (number % 256) as u8;
+    }
+}
+
+// Puts a value into a buffer or the board, by the place of its name.
+pub fn poke(
+    mut session: Session,
+    fixed: &mut [u8],
+    changing: &mut [u8],
+    what: u32,
+    at: u32,
+    number: u32,
+) -> Session {
+    if what == 4 {
+        poke_byte(fixed, at, number);
+        return session;
+    }
+    if what == 5 {
+        poke_byte(changing, at, number);
+        return session;
+    }
+    session.board = board_with(session.board, what, at, number);
+    session
+}
