@@ -1,6 +1,5 @@
 pub mod Banks
 pub mod Remainders
-pub mod Rows
 pub mod Filling
 pub mod Shown
 pub mod Signed

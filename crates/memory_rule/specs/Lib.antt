@@ -1,4 +1,3 @@
 pub mod Rule
 pub mod Required
 pub mod Laws
-pub mod Positions

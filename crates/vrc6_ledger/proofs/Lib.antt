@@ -10,4 +10,3 @@ pub mod Bytes
 pub mod Tabled
 pub mod Answered
 pub mod Rows
-pub mod InterruptRows

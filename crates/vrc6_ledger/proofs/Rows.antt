@@ -2,31 +2,23 @@
 use mathlib.Core.Path.{_≡_, refl, ap, _∙_}
 use mathlib.Core.Bool.{true}
 use mathlib.Core.List.{List}
-use Prim.Native.Nat.{ℕ}
-use lib.Ieee.{round, ofInt, add, div, mul, toBits}
+use lib.Ieee.{round, ofInt, add, toBits}
 use Rattle.base_shared.specs.Rows.{agree}
-use Rattle.base_shared.specs.Refusals.{unless}
 use Rattle.base_steps.specs.Times.{times, count}
 use Rattle.memory_layout.specs.Layout.{withinLimits}
 use Rattle.registers.specs.Decode.{decode}
-use Rattle.vrc6_slots.specs.declared.Mirroring.{Mirroring}
+use Rattle.vrc6_slots.specs.declared.Mirroring.the-variants.{Vertical}
 use Rattle.vrc6_banking.specs.declared.banking.Revision.{Revision}
 use Rattle.vrc6_slots.specs.Chr.{chrSlots}
 use Rattle.vrc6_slots.specs.Nametables.{nametableNumbers, nametableMirroring}
 use Rattle.vrc6_tables.specs.Tables.{cpuEntries, pictureEntries}
-use Rattle.irq.specs.Timing.{forecastAnswer}
-use Rattle.audio.specs.declared.Level.the-variants.{Refused as NoLevel}
 use Rattle.audio_channels.specs.Pulses.{pulseWritten, pulseClocked, pulseLevel}
 use Rattle.audio_channels.specs.Saws.{sawWritten, sawClocked, sawLevel}
 use Rattle.audio.specs.Sound.{audioWritten, audioClocked}
-use Rattle.audio.specs.Levels.{lastPulse, outputOf, levelName, levelOf}
 use Rattle.vrc6_calls.specs.declared.Call.{Call}
-use Rattle.vrc6_calls.specs.declared.Call.the-variants.{Clock}
-use Rattle.vrc6_engine.specs.declared.answers.Forecast.the-variants.{Refused}
 use Rattle.vrc6.specs.Boards.{State, Creation}
 use Rattle.vrc6.specs.Checks.{createRefusal}
-use Rattle.vrc6_engine.specs.Engine.{forecastOf}
-use Rattle.vrc6_calls.specs.Lists.{after, answers}
+use Rattle.vrc6_calls.specs.Lists.{answers}
 use Rattle.vrc6_ledger.specs.Ledger.{opening}
 use Rattle.vrc6_ledger.specs.Demand3.{start}
 use Rattle.vrc6_ledger.specs.Foreseen.{foreseen}
@@ -34,7 +26,7 @@ use Rattle.vrc6_ledger.specs.Played.{played, fresh}
 use Rattle.vrc6_ledger.specs.Exhibited.{zeros}
 use Rattle.vrc6_ledger.specs.Positions.{Sample, S, S20480, S0, layoutOf, Play, byCalls, rowsOf, Positions}
 use Rattle.vrc6_ledger.proofs.Ticks.{total, total-map}
-use Rattle.vrc6_ledger.proofs.Whole.{foreseen-law, played-law, never-refused}
+use Rattle.vrc6_ledger.proofs.Whole.{foreseen-law, played-law}
 use Rattle.vrc6_ledger.proofs.Exhibits.{zeros-accepted}
 
 within : (s : Sample) → withinLimits (layoutOf s) ≡ true
@@ -42,53 +34,32 @@ within S = refl
 within S20480 = refl
 within S0 = refl
 
+abbrev made : Sample → Revision → Creation
+made s r = zeros (layoutOf s) Vertical r
+
 -- the same by what each call does, with no test of a refusal
 abbrev byEffects : Play
 byEffects =
     record {
-      board = λ s m r ks. played (fresh (zeros (layoutOf s) m r)) ks .board;
-      ticks = λ s m r ks. let c = zeros (layoutOf s) m r in total (foreseen c (opening c) ks);
-      level = λ s m r ks. levelOf (played (fresh (zeros (layoutOf s) m r)) ks .board .audio);
-      forecast = λ s m r ks. forecastOf (forecastAnswer (played (fresh (zeros (layoutOf s) m r)) ks .board .irq));
+      board = λ s r ks. played (fresh (made s r)) ks .board;
+      ticks = λ s r ks. total (foreseen (made s r) (opening (made s r)) ks);
     }
 
-module _ (s : Sample) (m : Mirroring) (r : Revision) (ks : List Call) where
-  abbrev made : Creation
-  made = zeros (layoutOf s) m r
+module _ (s : Sample) (r : Revision) (ks : List Call) where
+  accepted : createRefusal (made s r) ≡ 0
+  accepted = zeros-accepted (layoutOf s) (within s) Vertical r
 
-  accepted : createRefusal made ≡ 0
-  accepted = zeros-accepted (layoutOf s) (within s) m r
+  board-same : byCalls .board s r ks ≡ byEffects .board s r ks
+  board-same = ap (λ (x : State). x .board) (played-law (made s r) accepted ks)
 
-  left : after (start made) ks ≡ played (fresh made) ks
-  left = played-law made accepted ks
-
-  board-same : byCalls .board s m r ks ≡ byEffects .board s m r ks
-  board-same = ap (λ (x : State). x .board) left
-
-  ticks-same : byCalls .ticks s m r ks ≡ byEffects .ticks s m r ks
-  ticks-same = total-map (answers (start made) ks) ∙ ap total (foreseen-law made accepted ks)
-
-  level-same : byCalls .level s m r ks ≡ byEffects .level s m r ks
-  level-same =
-      ap (λ (n : ℕ). unless n (levelOf (after (start made) ks .board .audio)) (NoLevel n)) (never-refused made accepted ks Clock)
-      ∙ ap (λ (x : State). levelOf (x .board .audio)) left
-
-  forecast-same : byCalls .forecast s m r ks ≡ byEffects .forecast s m r ks
-  forecast-same =
-      ap (λ (n : ℕ). unless n (forecastOf (forecastAnswer (after (start made) ks .board .irq))) (Refused n)) (never-refused made accepted ks Clock)
-      ∙ ap (λ (x : State). forecastOf (forecastAnswer (x .board .irq))) left
+  ticks-same : byCalls .ticks s r ks ≡ byEffects .ticks s r ks
+  ticks-same = total-map (answers (start (made s r)) ks) ∙ ap total (foreseen-law (made s r) accepted ks)
 
 same : byCalls ≡ byEffects
-same =
-    λ i. record {
-      board = λ s m r ks. board-same s m r ks i;
-      ticks = λ s m r ks. ticks-same s m r ks i;
-      level = λ s m r ks. level-same s m r ks i;
-      forecast = λ s m r ks. forecast-same s m r ks i;
-    }
+same = λ i. record { board = λ s r ks. board-same s r ks i; ticks = λ s r ks. ticks-same s r ks i }
 
 computed : agree (rowsOf byEffects) ≡ true
-unfolding times count decode cpuEntries pictureEntries chrSlots nametableNumbers nametableMirroring pulseWritten sawWritten pulseClocked sawClocked pulseLevel sawLevel audioWritten audioClocked lastPulse outputOf levelName round ofInt add div mul toBits
+unfolding times count decode cpuEntries pictureEntries chrSlots nametableNumbers nametableMirroring pulseWritten sawWritten pulseClocked sawClocked pulseLevel sawLevel audioWritten audioClocked round ofInt add toBits
 computed = refl
 
 pub positions : Positions

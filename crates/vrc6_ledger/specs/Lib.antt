@@ -8,4 +8,3 @@ pub mod Played
 pub mod Laws
 pub mod Answers
 pub mod Positions
-pub mod Interrupts

@@ -3,4 +3,3 @@ pub mod Regions
 pub mod Windows
 pub mod Entries
 pub mod Counts
-pub mod Rows

@@ -1,4 +1,3 @@
 pub mod Tables
 pub mod Required
 pub mod Laws
-pub mod Positions
