@@ -1,11 +1,43 @@
 -- The examples, computed. Assumes nothing.
 use mathlib.Core.Path.{refl}
+use Rattle.text_words.specs.Names.{nthWord, placeIn}
+use Rattle.text_words.specs.Numbers.{numberOf}
+use Rattle.script_lines.specs.Lines.{argumentBy, callBy, letterAt, lineBy, lineOf}
+use Rattle.script_lines.specs.Readings.{nameAfter, numberAfter, valueAfter, wrongAfter}
 use Rattle.script_lines.specs.Laws.{LineExamples}
 
 pub examples : LineExamples
+unfolding argumentBy callBy letterAt lineBy lineOf nameAfter nthWord numberAfter numberOf placeIn valueAfter wrongAfter
 examples =
     record {
       hash-a = refl;
       hash-foobar = refl;
       fill-1024 = refl;
+      read = refl;
+      write = refl;
+      hard = refl;
+      soft = refl;
+      clocks = refl;
+      create = refl;
+      layout-s = refl;
+      lend = refl;
+      poke-sum = refl;
+      expect-entry = refl;
+      expect-timer = refl;
+      expect-none = refl;
+      expect-held = refl;
+      heading = refl;
+      comment = refl;
+      blank = refl;
+      unknown = refl;
+      missing = refl;
+      no-number = refl;
+      no-decimal = refl;
+      too-large = refl;
+      too-many = refl;
+      no-choice = refl;
+      no-name = refl;
+      no-place = refl;
+      call-write = refl;
+      call-hard = refl;
     }

@@ -189,13 +189,7 @@ fn put_told(out: &mut [u8; ROOM], len: usize, what: u8, told: Told, pending: boo
 }
 
 // A call's answer, by the place of its name; pending as it is behind the call.
-pub fn put_answer(
-    out: &mut [u8; ROOM],
-    len: usize,
-    what: u8,
-    told: Told,
-    pending: bool,
-) -> usize {
+pub fn put_answer(out: &mut [u8; ROOM], len: usize, what: u8, told: Told, pending: bool) -> usize {
     if told.refusal != 0 {
         return put_refused(out, len, told.refusal);
     }

@@ -71,7 +71,13 @@ pub fn marked(mut session: Session, changing: &[u8]) -> Session {
 }
 
 // Lends so many bytes of a buffer, if it has them: 0 is the fixed one.
-pub fn lend(mut session: Session, fixed: &[u8], changing: &[u8], buffer: u32, length: u32) -> Session {
+pub fn lend(
+    mut session: Session,
+    fixed: &[u8],
+    changing: &[u8],
+    buffer: u32,
+    length: u32,
+) -> Session {
     let n = length as usize;
     if buffer == 0 {
         if n <= fixed.len() {
@@ -85,30 +91,18 @@ pub fn lend(mut session: Session, fixed: &[u8], changing: &[u8], buffer: u32, le
     session
 }
 
-fn poke_byte(bytes: &mut [u8], at: u32, number: u32) {
+// Puts a byte into a buffer, if it reaches so far.
+pub fn poke_byte(bytes: &mut [u8], at: u32, number: u32) {
     let i = at as usize;
     if i < bytes.len() {
         bytes[i] = (number % 256) as u8;
     }
 }
 
-// Puts a value into a buffer or the board, by the place of its name.
-pub fn poke(
-    mut session: Session,
-    fixed: &mut [u8],
-    changing: &mut [u8],
-    what: u32,
-    at: u32,
-    number: u32,
-) -> Session {
-    if what == 4 {
-        poke_byte(fixed, at, number);
-        return session;
-    }
-    if what == 5 {
-        poke_byte(changing, at, number);
-        return session;
-    }
-    session.board = board_with(session.board, what, at, number);
-    session
+// Puts a value into the board, by the place of its name.
+pub fn poke(session: Session, what: u32, at: u32, number: u32) -> Session {
+    let board = board_with(session.board, what, at, number);
+    let mut next = session;
+    next.board = board;
+    next
 }

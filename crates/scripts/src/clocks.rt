@@ -1,8 +1,10 @@
 // Many clocks at once.
+use audio::Audio;
 use base_floats::pattern::bits_of;
 use script_lines::fnv::FNV_START;
 use script_lines::fnv::fnv_word;
 use script_state::told::Told;
+use script_state::value::flag;
 use vrc6::Board;
 
 // The board after clocks, and what they told.
@@ -11,51 +13,50 @@ pub struct Clocks {
     pub told: Told,
 }
 
-// What clock number k tells: its tick, whether pending is set behind it, the sum and the level that it leaves.
-fn with_clock(mut told: Told, k: u32, ticked: bool, pending: bool, sum: f32, level: f32) -> Told {
-    if ticked {
-        if told.ticks == 0 {
-            told.first = k;
-        }
-        told.ticks = std::num::wrapping_add_u32(told.ticks, 1);
-        told.last = k;
+fn pick(b: bool, x: u32, y: u32) -> u32 {
+    if b {
+        return x;
     }
-    if pending & (told.interrupt == 0) {
-        told.interrupt = k;
-    }
-    if sum > 0.0 {
-        told.sounding = std::num::wrapping_add_u32(told.sounding, 1);
-    }
-    told.hash = fnv_word(told.hash, bits_of(level));
-    told
+    y
 }
 
-// n clocks; a refused one is the last.
+// One more if b.
+fn counted(n: u32, b: bool) -> u32 {
+    std::num::wrapping_add_u32(n, flag(b))
+}
+
+// What is told behind clock number k, if that ticked and left pending, a sum and a level.
+fn with_clock(told: Told, k: u32, ticked: bool, pending: bool, audio: Audio) -> Told {
+    let mut next = told;
+    next.ticks = counted(told.ticks, ticked);
+    next.first = pick(ticked & (told.ticks == 0), k, told.first);
+    next.last = pick(ticked, k, told.last);
+    next.interrupt = pick(pending & (told.interrupt == 0), k, told.interrupt);
+    next.sounding = counted(told.sounding, audio.out > 0.0);
+    next.hash = fnv_word(told.hash, bits_of(audio.output()));
+    next
+}
+
+// n clocks. Where one is refused all are: a refused clock leaves the board.
 pub fn clock_times(given: Board, n: u32) -> Clocks {
     let mut board = given;
     let mut told = Told::number(0);
     told.hash = FNV_START;
+    let mut refusal: u8 = 0;
     let mut k: u32 = 0;
     while k < n {
         k += 1;
         let clocked = board.clock();
         board = clocked.board;
-        if clocked.refusal != 0 {
-            return Clocks {
-                board,
-                told: Told::number(clocked.refusal),
-            };
-        }
         let irq = board.irq;
-        let audio = board.audio;
-        told = with_clock(
-            told,
-            k,
-            clocked.ticked,
-            irq.irq_pending,
-            audio.out,
-            audio.output(),
-        );
+        told = with_clock(told, k, clocked.ticked, irq.irq_pending, board.audio);
+        refusal = clocked.refusal;
     }
-    Clocks { board, told }
+    if refusal == 0 {
+        return Clocks { board, told };
+    }
+    Clocks {
+        board,
+        told: Told::number(refusal),
+    }
 }

@@ -124,12 +124,7 @@ fn lending(mut session: Session, lengths: Lengths) -> Session {
 }
 
 // `N`: on buffers that the seed fills. The arrays have room for every layout, so both tests hold.
-pub fn create_filled(
-    given: Session,
-    fixed: &mut [u8],
-    changing: &mut [u8],
-    line: Line,
-) -> Session {
+pub fn create_filled(given: Session, fixed: &mut [u8], changing: &mut [u8], line: Line) -> Session {
     let layout = layout_of(line);
     let settings = settings_of(line.f, line.g);
     let session = lending(given, lengths_of(layout));

@@ -4,6 +4,7 @@ use crate::calls::marked;
 use crate::calls::play;
 use crate::calls::play_clocks;
 use crate::calls::poke;
+use crate::calls::poke_byte;
 use crate::creation::create_filled;
 use crate::creation::create_over;
 use crate::creation::create_s;
@@ -41,7 +42,13 @@ fn put_heading(out: &mut [u8; ROOM], len: usize, line: &[u8]) -> usize {
     a
 }
 
-fn put_created(out: &mut [u8; ROOM], len: usize, refusal: u8, fixed: usize, changing: usize) -> usize {
+fn put_created(
+    out: &mut [u8; ROOM],
+    len: usize,
+    refusal: u8,
+    fixed: usize,
+    changing: usize,
+) -> usize {
     if refusal != 0 {
         return put_refused(out, len, refusal);
     }
@@ -105,12 +112,7 @@ fn shown_creation(session: Session, out: &mut [u8; ROOM]) -> Session {
     session
 }
 
-fn create_line(
-    session: Session,
-    fixed: &mut [u8],
-    changing: &mut [u8],
-    line: Line,
-) -> Session {
+fn create_line(session: Session, fixed: &mut [u8], changing: &mut [u8], line: Line) -> Session {
     if line.what == 18 {
         return marked(create_filled(session, fixed, changing, line), changing);
     }
@@ -128,7 +130,13 @@ fn call_line(session: Session, fixed: &[u8], changing: &mut [u8], line: Line) ->
 }
 
 // G, H and D.
-fn show_line(session: Session, fixed: &[u8], changing: &[u8], out: &mut [u8; ROOM], what: u8) -> Session {
+fn show_line(
+    session: Session,
+    fixed: &[u8],
+    changing: &[u8],
+    out: &mut [u8; ROOM],
+    what: u8,
+) -> Session {
     if what == 23 {
         let len = dump(out, session.len, session.board);
         return session.holding(len);
@@ -144,13 +152,25 @@ fn show_line(session: Session, fixed: &[u8], changing: &[u8], out: &mut [u8; ROO
     session.holding(d)
 }
 
+// `poke`: a byte of a buffer, or a value of the board.
+fn poke_line(session: Session, fixed: &mut [u8], changing: &mut [u8], line: Line) -> Session {
+    if line.a == 4 {
+        poke_byte(fixed, line.b, line.c);
+        return session;
+    }
+    if line.a == 5 {
+        poke_byte(changing, line.b, line.c);
+        return session;
+    }
+    poke(session, line.a, line.b, line.c)
+}
+
 fn set_line(session: Session, fixed: &mut [u8], changing: &mut [u8], line: Line) -> Session {
     if line.what == 24 {
         return marked(lend(session, fixed, changing, line.a, line.b), changing);
     }
     if line.a < 24 {
-        let set = poke(session, fixed, changing, line.a, line.b, line.c);
-        return marked(set, changing);
+        return marked(poke_line(session, fixed, changing, line), changing);
     }
     session.failed(NO_VALUE)
 }
@@ -174,9 +194,7 @@ fn play_made(
     if line.what < 26 {
         return set_line(session, fixed, changing, line);
     }
-    expect(
-        session, fixed, changing, out, text, line.a, line.b, line.c,
-    )
+    expect(session, fixed, changing, out, text, line.a, line.b, line.c)
 }
 
 // Of a line that is wrong nothing is done.

@@ -47,12 +47,7 @@ fn view_byte<'a>(board: Board, fixed: &'a [u8], changing: &'a [u8], addr: u16, i
     byte_of_view(board.page_view(fixed, changing, addr), i)
 }
 
-fn last_view_byte<'a>(
-    session: Session,
-    fixed: &'a [u8],
-    changing: &'a [u8],
-    i: u32,
-) -> u32 {
+fn last_view_byte<'a>(session: Session, fixed: &'a [u8], changing: &'a [u8], i: u32) -> u32 {
     let n = session.fixed;
     let m = session.changing;
     let told = session.told;
@@ -97,11 +92,7 @@ fn found<'a>(session: Session, fixed: &'a [u8], changing: &'a [u8], what: u32, a
         4 => lent_byte(fixed, session.fixed, at),
         5 => lent_byte(changing, session.changing, at),
         24 => last_view_byte(session, fixed, changing, at),
-        36 => flag(is_untouched(
-            changing,
-            session.changing,
-            session.changing_mark,
-        )),
+        36 => flag(is_untouched(changing, session.changing, session.changing_mark)),
         37 => flag(is_kept(session, changing)),
         _ => value_of(session, what, at),
     }

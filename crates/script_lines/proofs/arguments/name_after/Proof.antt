@@ -18,7 +18,7 @@ fault-requires c κs = search needs
 
 returns : tie.Need-returns
 unfolding nameAfter
-returns c = 
+returns c =
     let R : List ℕ → List ℕ → Reading = λ word rest. chosen (c .before .before .before .before .before .before .args .count) (placeIn (now (c .before .before .before .before .before .before .args .names)) word) rest in
     ap (readingIn (now (c .before .before .before .before .before .before .args .line))) (c .fault .ensures) ∙ c .before .before .before .word-after .ensures .faulty (c .before .if1 .taken) R
 
@@ -39,7 +39,7 @@ of-place-requires c κs = search needs
 
 returns-2 : tie.Need-returns-2
 unfolding nameAfter
-returns-2 c = 
+returns-2 c =
     let R : List ℕ → List ℕ → Reading = λ word rest. chosen (c .before .before .before .before .before .before .before .before .args .count) (placeIn (now (c .before .before .before .before .before .before .before .before .args .names)) word) rest in
     c .of-place .ensures
     ∙ ap (λ (p : ℕ). chosen (c .before .before .before .before .before .before .before .before .args .count) p (drop (c .before .before .before .before .before .word-after .result .next) (now (c .before .before .before .before .before .before .before .before .args .line)))) (c .before .place-in .ensures .0)

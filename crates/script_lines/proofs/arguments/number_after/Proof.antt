@@ -18,7 +18,7 @@ fault-requires c κs = search needs
 
 returns : tie.Need-returns
 unfolding numberAfter
-returns c = 
+returns c =
     let R : List ℕ → List ℕ → Reading = λ word rest. judged (c .before .before .before .before .before .args .none) (markedNumber (c .before .before .before .before .before .args .base) (c .before .before .before .before .before .args .limit) word) rest in
     ap (readingIn (now (c .before .before .before .before .before .args .line))) (c .fault .ensures) ∙ c .before .before .before .word-after .ensures .faulty (c .before .if1 .taken) R
 
@@ -39,7 +39,7 @@ of-number-requires c κs = search needs
 
 returns-2 : tie.Need-returns-2
 unfolding numberAfter
-returns-2 c = 
+returns-2 c =
     let R : List ℕ → List ℕ → Reading = λ word rest. judged (c .before .before .before .before .before .before .before .args .none) (markedNumber (c .before .before .before .before .before .before .before .args .base) (c .before .before .before .before .before .before .before .args .limit) word) rest in
     c .of-number .ensures
     ∙ ap (λ (n : Number). judged (c .before .before .before .before .before .before .before .args .none) n (drop (c .before .before .before .before .before .word-after .result .next) (now (c .before .before .before .before .before .before .before .args .line)))) (c .before .marked .ensures)

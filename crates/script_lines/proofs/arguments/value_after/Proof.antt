@@ -43,7 +43,7 @@ right-requires c κs = search needs
 
 returns-2 : tie.Need-returns-2
 unfolding valueAfter
-returns-2 c = 
+returns-2 c =
     ap (readingIn (now (c .before .before .before .before .before .before .before .before .before .before .args .line))) (c .right .ensures)
     ∙ ap (λ (v : ℕ). right v (drop (c .before .before .before .before .before .before .before .before .word-after .result .next) (now (c .before .before .before .before .before .before .before .before .before .before .args .line)))) (c .before .value-number .ensures)
     ∙ is-word _ _ _ (c .before .before .before .place-in .ensures .0) (c .before .before .if2 .taken)
@@ -66,7 +66,7 @@ of-number-requires c κs = search needs
 
 returns-3 : tie.Need-returns-3
 unfolding valueAfter
-returns-3 c = 
+returns-3 c =
     c .of-number .ensures
     ∙ ap (λ (n : Number). judged 4 n (drop (c .before .before .before .before .before .before .before .before .before .word-after .result .next) (now (c .before .before .before .before .before .before .before .before .before .before .before .args .line)))) (c .before .marked .ensures)
     ∙ is-number _ _ _ (c .before .before .before .before .place-in .ensures .0) (c .before .before .before .if2 .left)

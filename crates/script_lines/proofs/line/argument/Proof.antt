@@ -131,7 +131,7 @@ returns-14 c = by-letter 116 _ (c .before .match .keys14) (c .text-after .ensure
 
 returns-15 : tie.Need-returns-15
 unfolding argumentBy
-returns-15 c = 
+returns-15 c =
     let x = c .before .before .before .args .letter in
     let r = c .before .match .rest in
     c .none-after .ensures

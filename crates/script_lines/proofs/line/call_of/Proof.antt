@@ -48,7 +48,7 @@ returns-8 c = by-pair 6 (c .before .args .a) (c .before .args .b) (c .match .key
 
 returns-9 : tie.Need-returns-9
 unfolding callBy
-returns-9 c = 
+returns-9 c =
     let x = c .before .args .what / 2 in
     let r = c .match .rest in
     rw (

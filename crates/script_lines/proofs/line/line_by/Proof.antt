@@ -70,7 +70,7 @@ wrong-after-requires : tie.Need-wrong-after-requires
 wrong-after-requires c κs = search needs
 
 returns : tie.Need-returns
-returns c = 
+returns c =
     let L = now (c .before .before .before .before .before .before .before .before .before .before .before .before .before .before .before .before .before .before .before .args .line) in
     let W = c .before .before .before .before .before .before .before .before .before .before .before .before .before .before .before .before .before .before .before .args .what in
     let A = readingIn L (c .before .before .before .before .before .before .before .before .before .before .before .before .before .before .before .argument .result) in

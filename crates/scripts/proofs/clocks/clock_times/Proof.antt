@@ -5,10 +5,10 @@ use Rattle.scripts.proofs.clocks.clock_times.Statement.{statement}
 use Rattle.scripts.proofs.clocks.clock_times.Tie as tie
 
 abbrev Inv-loop : tie.InvT-loop
-Inv-loop n board₀ told₀ k₀ board told k = k ≤ n
+Inv-loop n board₀ told₀ refusal₀ k₀ board told refusal k = k ≤ n
 
 abbrev μ-loop : tie.MeasureT-loop
-μ-loop n board₀ told₀ k₀ board told k = n - k
+μ-loop n board₀ told₀ refusal₀ k₀ board told refusal k = n - k
 
 number-requires : tie.Need-number-requires Inv-loop μ-loop
 number-requires c κs = search needs
@@ -22,15 +22,6 @@ add-k c = search needs
 clock-requires : tie.Need-clock-requires Inv-loop μ-loop
 clock-requires c κs = search needs
 
-number-requires-2 : tie.Need-number-requires-2 Inv-loop μ-loop
-number-requires-2 c κs = search needs
-
-returns : tie.Need-returns Inv-loop μ-loop
-returns c = search needs
-
-output-requires : tie.Need-output-requires Inv-loop μ-loop
-output-requires c κs = search needs
-
 with-clock-requires : tie.Need-with-clock-requires Inv-loop μ-loop
 with-clock-requires c κs = search needs
 
@@ -39,6 +30,12 @@ loop-less c = search needs
 
 loop-again : tie.Need-loop-again Inv-loop μ-loop
 loop-again c = search needs
+
+returns : tie.Need-returns Inv-loop μ-loop
+returns c = search needs
+
+number-requires-2 : tie.Need-number-requires-2 Inv-loop μ-loop
+number-requires-2 c κs = search needs
 
 returns-2 : tie.Need-returns-2 Inv-loop μ-loop
 returns-2 c = search needs
@@ -53,10 +50,9 @@ clock-times-spec =
     loop-holds
     add-k
     clock-requires
-    number-requires-2
-    returns
-    output-requires
     with-clock-requires
     loop-less
     loop-again
+    returns
+    number-requires-2
     returns-2)
