@@ -97,6 +97,14 @@ impl<'a> Words<'a> {
         let word = self.next()?;
         if word == first || word == second { Ok(word == second) } else { Err(NO_CHOICE) }
     }
+    /// A reset's kind: whether it is hard.
+    fn hard(&mut self) -> Result<bool, Wrong> {
+        match self.next()? {
+            "s" | "soft" => Ok(false),
+            "h" | "hard" => Ok(true),
+            _ => Err(NO_CHOICE),
+        }
+    }
     fn end(&self) -> Result<(), Wrong> {
         if self.at < self.words.len() { Err(TOO_MANY) } else { Ok(()) }
     }
@@ -204,7 +212,7 @@ fn call(name: &str, w: &mut Words) -> Result<Call, Wrong> {
         "P" | "picture-read" => Call::PictureRead(w.address()?),
         "Q" | "picture-write" => Call::PictureWrite(w.address()?, w.byte()?),
         "C" | "clock" => Call::Clock(w.decimal(u32::MAX)?),
-        "Z" | "reset" => Call::Reset(w.second("s", "h")?),
+        "Z" | "reset" => Call::Reset(w.hard()?),
         "L" | "level" => Call::Level,
         "V" | "view" => Call::View(w.address()?),
         "F" | "forecast" => Call::Forecast,

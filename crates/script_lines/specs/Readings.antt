@@ -73,11 +73,12 @@ valueWords = codes "no yes silent held playing none"
 abbrev pub valueNumber : (place : ℕ) → ℕ
 valueNumber place = getD (0 ∷ 1 ∷ 1 ∷ 2 ∷ 3 ∷ largest ∷ []) place 0
 
--- a value: one of those words, or a decimal number
+-- a value's word: one of those words, or a decimal number
 abbrev pub valueRule : List ℕ → List ℕ → Reading
 valueRule word rest =
     cond (ltb (placeIn valueWords word) 6) (right (valueNumber (placeIn valueWords word)) rest) (judged 4 (markedNumber 10 largest word) rest)
 
+-- a value
 unfoldable pub valueAfter : Reading → Reading
 valueAfter r = following valueRule r
 
