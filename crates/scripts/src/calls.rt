@@ -60,14 +60,28 @@ pub fn play_clocks(session: Session, n: u32) -> Session {
     next
 }
 
+// The hash of the lent bytes of a buffer.
+pub fn lent_hash(bytes: &[u8], lent: usize) -> u32 {
+    if lent <= bytes.len() {
+        return fnv(FNV_START, &bytes[0..lent]);
+    }
+    0
+}
+
 // The hashes that `untouched` and `kept` compare with.
 pub fn marked(mut session: Session, changing: &[u8]) -> Session {
     session.board_mark = board_hash(session.board);
-    let m = session.changing;
-    if m <= changing.len() {
-        session.changing_mark = fnv(FNV_START, &changing[0..m]);
-    }
+    session.changing_mark = lent_hash(changing, session.changing);
     session
+}
+
+// A length that a buffer has, or the one that was lent before.
+fn length_of(bytes: &[u8], length: u32, before: usize) -> usize {
+    let n = length as usize;
+    if n <= bytes.len() {
+        return n;
+    }
+    before
 }
 
 // Lends so many bytes of a buffer, if it has them: 0 is the fixed one.
@@ -78,16 +92,11 @@ pub fn lend(
     buffer: u32,
     length: u32,
 ) -> Session {
-    let n = length as usize;
     if buffer == 0 {
-        if n <= fixed.len() {
-            session.fixed = n;
-        }
+        session.fixed = length_of(fixed, length, session.fixed);
         return session;
     }
-    if n <= changing.len() {
-        session.changing = n;
-    }
+    session.changing = length_of(changing, length, session.changing);
     session
 }
 

@@ -1,8 +1,7 @@
 // What is expected, and what there is.
+use crate::calls::lent_hash;
 use crate::session::Session;
 use script_lines::arguments::NONE;
-use script_lines::fnv::FNV_START;
-use script_lines::fnv::fnv;
 use script_state::hash::board_hash;
 use script_state::value::board_value;
 use script_state::value::flag;
@@ -64,10 +63,7 @@ fn last_view_byte<'a>(session: Session, fixed: &'a [u8], changing: &'a [u8], i: 
 }
 
 fn is_untouched(changing: &[u8], lent: usize, mark: u32) -> bool {
-    if lent <= changing.len() {
-        return fnv(FNV_START, &changing[0..lent]) == mark;
-    }
-    false
+    lent_hash(changing, lent) == mark
 }
 
 fn is_kept(session: Session, changing: &[u8]) -> bool {
