@@ -10,7 +10,7 @@ use lib.ListN.{length, take, drop}
 use borrow.Author.Tests.{le-leb, lt-leb, leb-true, leb-false}
 use Rattle.base_shared.specs.Refusals.{unless}
 use Rattle.base_shared.proofs.Tests.{tested, unless-refused, unless-done}
-use Rattle.memory_layout.specs.Pages.{offset as offsetOf}
+use Rattle.memory_pages.specs.Pages.{offset as offsetOf}
 use Rattle.memory_tables.specs.Paging.{picture}
 use Rattle.memory_access.specs.Access.{pageBytes}
 use Rattle.memory_access.proofs.Accepted.{inside as page-inside, whole}

@@ -7,9 +7,9 @@ use lib.Ieee.{binary32, ofBits}
 use lib.ListN.{length, take}
 use Rattle.base_shared.specs.Refusals.{firstFailing, unless}
 use Rattle.base_shared.specs.Rows.{flag}
+use Rattle.memory_pages.specs.Pages.{offset as offsetOf}
 use Rattle.memory_layout.specs.declared.regions.MemoryLayout.{MemoryLayout}
 use Rattle.memory_layout.specs.Layout.{layoutChecks}
-use Rattle.memory_layout.specs.Pages.{offset as offsetOf}
 use Rattle.memory_tables.specs.Paging.{picture}
 use Rattle.vrc6_slots.specs.declared.Mirroring.{Mirroring}
 use Rattle.vrc6_slots.specs.declared.Mirroring.the-variants.{Vertical, Horizontal, SingleScreenA, SingleScreenB, FourScreen}

@@ -4,11 +4,11 @@ use Rattle.host_calls.proofs.Kit.{tyArray, Val, Gv, fauth, fobor, GName
 use Rattle.host_calls.proofs.Kit.{Item, Seq, Goal, Step, step, from, Body, whole, sub, Part, Is, shows, mem, cellAt, opens, closes, owned, peeks, spelt, arrayVal}
 use mathlib.Core.Option.{Option, none, some}
 use denote.Struct.Laws as LL
-use Rattle.memory_layout.specs.Pages.{unmapped}
-use Rattle.memory_layout.specs.declared.page.Page.{Page}
+use Rattle.memory_pages.specs.Pages.{unmapped}
+use Rattle.memory_pages.specs.declared.page.Page.{Page}
+use Rattle.memory_pages.proofs.page.Page as P
+use Rattle.memory_pages.proofs.page.Page.Laws as P′
 use Rattle.memory_layout.specs.declared.regions.MemoryLayout.{MemoryLayout}
-use Rattle.memory_layout.proofs.page.Page as P
-use Rattle.memory_layout.proofs.page.Page.Laws as P′
 use Rattle.memory_layout.proofs.regions.MemoryLayout as L
 use Rattle.memory_layout.proofs.regions.MemoryLayout.Laws as L′
 use Rattle.vrc6_banking.specs.declared.banking.Banking.{Banking}

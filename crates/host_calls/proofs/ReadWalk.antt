@@ -12,11 +12,11 @@ use Rattle.host_calls.proofs.Kit.{RefT, MutRef, now, ptr-vals, mut-tell
 use Rattle.host_calls.proofs.Kit.{calls-at, Clauses, Ended, lasts, closing, says, Stays, stay-ref, walkOf, goes-ref, ends-at, walked, walk-meets, stay-dropped, goes-dropped}
 use Rattle.host_calls.proofs.Kit.{uint-vals, uint-tells, sliceVal, ShrSlice, Room, slice-vals, shr-slice-tells}
 use denote.Struct.Laws as LL
-use Rattle.memory_layout.specs.Pages.{unmapped}
-use Rattle.memory_layout.specs.declared.page.Page.{Page}
+use Rattle.memory_pages.specs.Pages.{unmapped}
+use Rattle.memory_pages.specs.declared.page.Page.{Page}
+use Rattle.memory_pages.proofs.page.Page as P
+use Rattle.memory_pages.proofs.page.Page.Laws as P′
 use Rattle.memory_layout.specs.declared.regions.MemoryLayout.{MemoryLayout}
-use Rattle.memory_layout.proofs.page.Page as P
-use Rattle.memory_layout.proofs.page.Page.Laws as P′
 use Rattle.memory_layout.proofs.regions.MemoryLayout as L
 use Rattle.memory_layout.proofs.regions.MemoryLayout.Laws as L′
 use Rattle.memory_access.specs.Access.{peeked}

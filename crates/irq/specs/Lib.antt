@@ -1,5 +1,4 @@
 pub mod Interrupt
 pub mod Timing
 pub mod Writes
-pub mod Clocks
 pub mod Laws

@@ -1,6 +1,4 @@
 // The interrupt counter of the VRC chips, which ticks at each clock or once a line (VRC IRQ; vrc_irq.rs).
-pub mod clocks;
-
 use registers::IrqRegister;
 use registers::Register;
 use registers::decode;

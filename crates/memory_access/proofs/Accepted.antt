@@ -11,9 +11,9 @@ use borrow.Author.Tests.{leb-true, eqb-true}
 use Rattle.base_shared.specs.Numbered.{AllHold}
 use Rattle.base_shared.proofs.Tests.{and-left, and-right}
 use Rattle.base_shared.proofs.Numbers.{none-fails}
-use Rattle.memory_layout.specs.declared.page.Page.{Page}
+use Rattle.memory_pages.specs.declared.page.Page.{Page}
+use Rattle.memory_pages.specs.Pages.{offset, writable, spare}
 use Rattle.memory_layout.specs.declared.regions.MemoryLayout.{MemoryLayout}
-use Rattle.memory_layout.specs.Pages.{offset, writable, spare}
 use Rattle.memory_layout.specs.Layout.{fixedLength, changingLength, layoutChecks}
 use Rattle.memory_layout.specs.Entries.{entryInRange}
 use Rattle.memory_layout.specs.Required.{Limits}

@@ -8,9 +8,9 @@ use lib.ListN.{length, getD, set, take, drop, length-set, length-append, length-
 use lib.Seq.{getD-take, getD-drop}
 use Rattle.base_shared.specs.Refusals.{unless}
 use Rattle.base_shared.proofs.Tests.{either, tested, unless-refused, unless-done}
-use Rattle.memory_layout.specs.declared.page.Page.{Page}
+use Rattle.memory_pages.specs.declared.page.Page.{Page}
+use Rattle.memory_pages.specs.Pages.{offset, writable}
 use Rattle.memory_layout.specs.declared.regions.MemoryLayout.{MemoryLayout}
-use Rattle.memory_layout.specs.Pages.{offset, writable}
 use Rattle.memory_access.specs.Access.{accessRefusal, plainRefusal, place, byteAt, stored, pageBytes, peeked, written, viewed}
 use Rattle.memory_access.specs.Laws.{ByteStored, ByteStoredLaw, PageViewed, PageViewedLaw, Refused, AccessRefusedLaw}
 use Rattle.memory_access.proofs.Accepted.{inside, behind}

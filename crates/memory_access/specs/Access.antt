@@ -4,9 +4,9 @@ use mathlib.Core.List.{List, [], _∷_, _++_}
 use Prim.Native.Nat.{ℕ, _+_, _-_, _%_}
 use lib.ListN.{length, getD, set, take, drop}
 use Rattle.base_shared.specs.Refusals.{firstFailing, unless}
-use Rattle.memory_layout.specs.declared.page.Page.{Page}
+use Rattle.memory_pages.specs.declared.page.Page.{Page}
+use Rattle.memory_pages.specs.Pages.{offset, writable}
 use Rattle.memory_layout.specs.declared.regions.MemoryLayout.{MemoryLayout}
-use Rattle.memory_layout.specs.Pages.{offset, writable}
 use Rattle.memory_layout.specs.Layout.{layoutChecks}
 use Rattle.memory_layout.specs.Entries.{entryInRange}
 use Rattle.memory_access.specs.declared.Peeked.{Peeked}

@@ -4,9 +4,9 @@ use mathlib.Core.Bool.{true, false}
 use mathlib.Core.List.{List, [], _++_}
 use Prim.Native.Nat.{ℕ, _%_}
 use lib.ListN.{length, getD}
-use Rattle.memory_layout.specs.declared.page.Page.{Page}
+use Rattle.memory_pages.specs.declared.page.Page.{Page}
+use Rattle.memory_pages.specs.Pages.{writable}
 use Rattle.memory_layout.specs.declared.regions.MemoryLayout.{MemoryLayout}
-use Rattle.memory_layout.specs.Pages.{writable}
 use Rattle.memory_access.specs.Access.{plainRefusal, place, peeked, written, viewed}
 
 -- a byte stored through a writable entry is read back there, every other byte is unmoved, and an unwritable entry stores nothing (01, Paging 2)

@@ -4,8 +4,8 @@ use mathlib.Core.Bool.{true}
 use mathlib.Core.List.{List}
 use Prim.Native.Nat.{ℕ, _+_, _≤_}
 use lib.ListN.{length}
-use Rattle.memory_layout.specs.declared.page.Page.{Page}
-use Rattle.memory_layout.specs.Pages.{offset, writable}
+use Rattle.memory_pages.specs.declared.page.Page.{Page}
+use Rattle.memory_pages.specs.Pages.{offset, writable}
 
 -- the page of a writable entry lies inside the changing buffer, the fixed one being so long
 pub record Placed (fixed : ℕ) (e : Page) (changing : List ℕ) : Type 0 where

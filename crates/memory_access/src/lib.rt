@@ -2,7 +2,7 @@
 // `prg_write`, `chr_peek`, `chr_write`). The functions take the parts of a board that they need, layout, entry and
 // buffers; `store` alone checks nothing.
 use memory_layout::MemoryLayout;
-use memory_layout::Page;
+use memory_pages::Page;
 ghost use mathlib.Core.Path.{_≡_};
 ghost use mathlib.Core.List.{_++_};
 ghost use Prim.Native.Nat.{_+_, _<_};

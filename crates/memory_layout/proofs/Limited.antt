@@ -6,9 +6,9 @@ use Prim.Native.Nat.{ℕ, _+_, _%_, _≤_}
 use lib.Dec.{leb, eqb}
 use borrow.Author.Tests.{leb-true}
 use Rattle.base_shared.proofs.Tests.{and-left, and-right}
-use Rattle.memory_layout.specs.declared.page.Page.{Page}
+use Rattle.memory_pages.specs.declared.page.Page.{Page}
+use Rattle.memory_pages.specs.Pages.{offset, writable, spare}
 use Rattle.memory_layout.specs.declared.regions.MemoryLayout.{MemoryLayout}
-use Rattle.memory_layout.specs.Pages.{offset, writable, spare}
 use Rattle.memory_layout.specs.Layout.{fixedLength, changingLength, withinLimits}
 use Rattle.memory_layout.specs.Entries.{inFixed, inChanging, entryInRange}
 use Rattle.memory_layout.specs.Required.{Limits}

@@ -2,9 +2,9 @@
 use mathlib.Core.Bool.{Bool, not, _&&_, _||_}
 use Prim.Native.Nat.{_+_, _%_}
 use lib.Dec.{eqb, leb}
-use Rattle.memory_layout.specs.declared.page.Page.{Page}
+use Rattle.memory_pages.specs.declared.page.Page.{Page}
+use Rattle.memory_pages.specs.Pages.{offset, writable, spare}
 use Rattle.memory_layout.specs.declared.regions.MemoryLayout.{MemoryLayout}
-use Rattle.memory_layout.specs.Pages.{offset, writable, spare}
 use Rattle.memory_layout.specs.Layout.{fixedLength, changingLength}
 
 -- the page lies wholly inside the fixed buffer (01, The board's calls 4)

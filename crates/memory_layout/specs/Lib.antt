@@ -1,4 +1,3 @@
-pub mod Pages
 pub mod Layout
 pub mod Entries
 pub mod Required

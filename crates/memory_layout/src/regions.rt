@@ -1,5 +1,5 @@
 // The layout: how long each region is, which buffer it lies in and where it starts.
-use crate::page::Page;
+use memory_pages::Page;
 ghost use mathlib.Core.Path.{_≡_};
 ghost use Prim.Native.Nat.{_+_, _≤_};
 ghost use Rattle.base_shared.specs.Refusals.{firstFailing};

@@ -6,8 +6,8 @@ use native.Mathlib.Omega.{arith}
 use native.Mathlib.Nat.{mul-le-mul}
 use lib.ListN.{replicate, set}
 use Rattle.base_shared.proofs.Runs.{Filled, more, done}
-use Rattle.memory_layout.specs.declared.page.Page.{Page}
-use Rattle.memory_layout.specs.Pages.{offset, unmapped}
+use Rattle.memory_pages.specs.declared.page.Page.{Page}
+use Rattle.memory_pages.specs.Pages.{offset, unmapped}
 use Rattle.memory_rule.specs.declared.runs.EntryRun.{EntryRun}
 use Rattle.memory_rule.specs.Required.{AllSmall, Small, nth, runAt, runEntry}
 use Rattle.base_shared.specs.Lists.{tabulate}

@@ -8,12 +8,12 @@ use lib.IntN.{ℤ}
 use lib.Dec.{eqb, leb}
 use borrow.Author.Tests.{eqb-false, le-leb, eq-eqb}
 use Rattle.base_shared.proofs.Tests.{both, tested}
-use Rattle.memory_layout.specs.declared.page.Page.{Page}
+use Rattle.memory_pages.specs.declared.page.Page.{Page}
+use Rattle.memory_pages.specs.Pages.{entry, unmapped, offset, writable, spare}
 use Rattle.memory_layout.specs.declared.regions.MemoryLayout.{MemoryLayout}
 use Rattle.memory_layout.specs.declared.regions.Region.{Region}
 use Rattle.memory_layout.specs.declared.regions.Src.{Src}
 use Rattle.memory_layout.specs.declared.regions.Src.the-variants.{PrgRom, PrgRam, Chr, CiRam}
-use Rattle.memory_layout.specs.Pages.{entry, unmapped, offset, writable, spare}
 use Rattle.memory_layout.specs.Layout.{wholePages, ciramBytes, regionLength, fixedChr, changingChr, fixedLength, changingLength, withinLimits, region}
 use Rattle.memory_rule.specs.Rule.{remEuclid, bankCount, base, shown}
 use Rattle.memory_layout.specs.Entries.{entryInRange}

@@ -9,9 +9,9 @@ use lib.Dec.{eqb, leb}
 use lib.IntN.{ℤ}
 use borrow.Author.Tests.{leb-true, le-leb, eq-eqb, ne-eqb}
 use Rattle.base_shared.specs.Lists.{tabulate}
+use Rattle.memory_pages.specs.Pages.{entry, offset, pagesOn}
+use Rattle.memory_pages.proofs.Entries.{offset-of, entry-on, on-again}
 use Rattle.memory_layout.specs.declared.regions.Region.{Region}
-use Rattle.memory_layout.specs.Pages.{entry, offset, pagesOn}
-use Rattle.memory_layout.proofs.Entries.{offset-of, entry-on, on-again}
 use Rattle.memory_rule.specs.Rule.{remEuclid, bankCount, base, shown}
 use Rattle.memory_rule.specs.declared.runs.EntryRun.{EntryRun}
 use Rattle.memory_rule.specs.Required.{held, nth, octet, runEntries, unmappedRun}

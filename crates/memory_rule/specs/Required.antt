@@ -7,9 +7,9 @@ use lib.Dec.{eqb, leb}
 use lib.IntN.{ℤ}
 use lib.ListN.{getD}
 use Rattle.base_shared.specs.Lists.{tabulate}
-use Rattle.memory_layout.specs.declared.page.Page.{Page}
+use Rattle.memory_pages.specs.declared.page.Page.{Page}
+use Rattle.memory_pages.specs.Pages.{offset, pagesOn, unmapped}
 use Rattle.memory_layout.specs.declared.regions.Region.{Region}
-use Rattle.memory_layout.specs.Pages.{offset, pagesOn, unmapped}
 use Rattle.memory_rule.specs.declared.runs.EntryRun.{EntryRun}
 use Rattle.memory_rule.specs.Rule.{shown}
 

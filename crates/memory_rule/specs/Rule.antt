@@ -3,9 +3,9 @@ use mathlib.Core.Bool.{cond}
 use Prim.Native.Nat.{ℕ, _+_, _-_, _*_, _/_, _%_, max}
 use lib.Dec.{eqb}
 use lib.IntN.{ℤ, pos, negsuc}
-use Rattle.memory_layout.specs.declared.page.Page.{Page}
+use Rattle.memory_pages.specs.declared.page.Page.{Page}
+use Rattle.memory_pages.specs.Pages.{entry, unmapped}
 use Rattle.memory_layout.specs.declared.regions.Region.{Region}
-use Rattle.memory_layout.specs.Pages.{entry, unmapped}
 
 -- b modulo the count of banks, never negative; `negsuc n` is -(n + 1) (01, Paging 2; 01, Rust forms to recast 1)
 abbrev pub remEuclid : ℤ → (banks : ℕ) → ℕ

@@ -1,8 +1,8 @@
 // The paging rule: which page of a region each entry of a window shows (tetanes-core's memory.rs, `map_pages`).
 pub mod runs;
 
-use memory_layout::Page;
 use memory_layout::Region;
+use memory_pages::Page;
 ghost use mathlib.Core.Path.{_≡_};
 ghost use Prim.Native.Nat.{_≤_};
 ghost use Rattle.memory_rule.specs.Required.{Reach};

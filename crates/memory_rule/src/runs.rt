@@ -1,8 +1,8 @@
 // Windows that do not wrap. A region that is at least as long as its window shows it page after page, so that only the first entry
 // needs the paging rule.
 use crate::first_page;
-use memory_layout::Page;
 use memory_layout::Region;
+use memory_pages::Page;
 ghost use mathlib.Core.Path.{_≡_};
 ghost use Rattle.base_shared.specs.Lists.{tabulate};
 ghost use Rattle.memory_rule.specs.Required.{AllSmall, Held, Small, held, octet, runEntries, runEntry};

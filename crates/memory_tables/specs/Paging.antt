@@ -5,9 +5,9 @@ use lib.IntN.{ℤ}
 use lib.ListN.{getD}
 use lib.Seq.{sets}
 use Rattle.base_shared.specs.Lists.{tabulate}
-use Rattle.memory_layout.specs.declared.page.Page.{Page}
+use Rattle.memory_pages.specs.declared.page.Page.{Page}
+use Rattle.memory_pages.specs.Pages.{unmapped}
 use Rattle.memory_layout.specs.declared.regions.Region.{Region}
-use Rattle.memory_layout.specs.Pages.{unmapped}
 use Rattle.memory_rule.specs.Rule.{shown}
 
 -- the entries of a window of s bytes on bank b, one for each of its pages (01, Paging 2)

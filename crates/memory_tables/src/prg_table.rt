@@ -1,6 +1,6 @@
 // The CPU's table of 64 entries: the entry of an address, and windows that are mapped and unmapped.
-use memory_layout::Page;
 use memory_layout::Region;
+use memory_pages::Page;
 use memory_rule::window_page;
 ghost use mathlib.Core.Path.{_≡_};
 ghost use Rattle.memory_tables.specs.Required.{Inside, Window};

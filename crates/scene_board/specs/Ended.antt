@@ -2,9 +2,9 @@
 use mathlib.Core.List.{List, [], _∷_}
 use Prim.Native.Nat.{ℕ}
 use lib.ListN.{getD}
-use Rattle.memory_layout.specs.declared.page.Page.{Page}
+use Rattle.memory_pages.specs.declared.page.Page.{Page}
+use Rattle.memory_pages.specs.Pages.{unmapped}
 use Rattle.memory_layout.specs.declared.regions.MemoryLayout.{MemoryLayout}
-use Rattle.memory_layout.specs.Pages.{unmapped}
 use Rattle.vrc6.specs.Boards.{State, heldBy}
 use Rattle.vrc6_calls.specs.Lists.{after}
 use Rattle.host_answers.specs.declared.NumberedSettings.{NumberedSettings}

@@ -2,11 +2,11 @@
 use mathlib.Core.Bool.{cond}
 use Prim.Native.Nat.{ℕ, _-_, _/_}
 use lib.Dec.{ltb}
-use Rattle.memory_layout.specs.declared.page.Page.{Page}
+use Rattle.memory_pages.specs.declared.page.Page.{Page}
+use Rattle.memory_pages.specs.Pages.{offset}
 use Rattle.memory_layout.specs.declared.regions.MemoryLayout.{MemoryLayout}
 use Rattle.memory_layout.specs.declared.regions.Region.{Region}
 use Rattle.memory_layout.specs.declared.regions.Src.the-variants.{Chr}
-use Rattle.memory_layout.specs.Pages.{offset}
 use Rattle.memory_layout.specs.Layout.{region, withinLimits}
 
 -- shown where it is no bank of CHR

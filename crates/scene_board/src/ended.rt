@@ -5,7 +5,7 @@ use host_answers::NumberedSettings;
 use host_answers::create_numbered;
 use irq::VrcIrq;
 use memory_layout::MemoryLayout;
-use memory_layout::Page;
+use memory_pages::Page;
 ghost use mathlib.Core.Path.{_≡_};
 ghost use Rattle.scene_board.specs.Ended.{doneState, endOf, slotsShown};
 

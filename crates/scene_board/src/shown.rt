@@ -1,8 +1,8 @@
 // Which bank a slot of the picture side shows.
 use memory_layout::MemoryLayout;
-use memory_layout::Page;
 use memory_layout::Region;
 use memory_layout::Src;
+use memory_pages::Page;
 ghost use mathlib.Core.Path.{_≡_};
 ghost use Rattle.scene_board.specs.Shown.{bankAt, bankShown};
 

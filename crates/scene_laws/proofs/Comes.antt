@@ -14,7 +14,7 @@ use Rattle.base_steps.proofs.Iterated.{keeps}
 use Rattle.registers.specs.Decode.{decode}
 use Rattle.irq.specs.declared.VrcIrq.{VrcIrq}
 use Rattle.irq.specs.Timing.{lineStep, lineLength, clockAnswer}
-use Rattle.irq.specs.Clocks.{irqClockedTimes}
+use Rattle.irq_clocks.specs.Clocks.{irqClockedTimes}
 use Rattle.vrc6_calls.specs.declared.Call.{Call}
 use Rattle.vrc6_calls.specs.declared.Call.the-variants.{Clock}
 use Rattle.vrc6.specs.Boards.{State, Creation, newBoard, zeroBoard}

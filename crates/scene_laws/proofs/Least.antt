@@ -11,10 +11,11 @@ use Rattle.irq.specs.declared.VrcIrq.{VrcIrq}
 use Rattle.irq.specs.declared.IrqForecast.the-variants.{None, In}
 use Rattle.irq.specs.Interrupt.{forecastIn}
 use Rattle.irq.specs.Timing.{lineStep, lineLength}
-use Rattle.irq.specs.Clocks.{LeastClocks}
-use Rattle.irq.specs.Laws.{Exact}
-use Rattle.irq.proofs.Forecasts.{forecast-law}
-use Rattle.irq.proofs.Board.{pace, short-forecast-law}
+use Rattle.irq.proofs.Board.{pace}
+use Rattle.irq_clocks.specs.Clocks.{LeastClocks}
+use Rattle.irq_clocks.specs.Laws.{Exact}
+use Rattle.irq_clocks.proofs.Forecasts.{forecast-law}
+use Rattle.irq_clocks.proofs.Board.{short-forecast-law}
 use Rattle.scene_moments.specs.Moments.{clocksDue, dueFrom}
 use Rattle.scene_moments.proofs.Waiting.{some-due}
 use Rattle.scene_laws.specs.Laws.{ClocksDueLaw}

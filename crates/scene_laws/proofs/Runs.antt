@@ -18,12 +18,12 @@ use Rattle.irq.specs.declared.VrcIrq.{VrcIrq}
 use Rattle.irq.specs.declared.IrqForecast.the-variants.{None, In}
 use Rattle.irq.specs.Interrupt.{irqInRange, irqZero, forecastIn}
 use Rattle.irq.specs.Timing.{lineStep, lineLength, clockAnswer}
-use Rattle.irq.specs.Clocks.{irqClockedTimes, irqSets, LeastClocks}
 use Rattle.irq.specs.Laws.{Bytes}
 use Rattle.irq.proofs.Ranges.{prescaler-law, bytes-law}
-use Rattle.irq.proofs.Forecasts.{pending-law, quiet-law}
 use Rattle.irq.proofs.Board.{pace}
 use Rattle.irq.specs.Writes.{irqWrittenTo}
+use Rattle.irq_clocks.specs.Clocks.{irqClockedTimes, irqSets, LeastClocks}
+use Rattle.irq_clocks.proofs.Forecasts.{pending-law, quiet-law}
 use Rattle.vrc6_calls.specs.declared.Call.{Call}
 use Rattle.vrc6_calls.specs.declared.Call.the-variants.{Clock}
 use Rattle.vrc6_ledger.specs.Ledger.{event}

@@ -7,7 +7,7 @@ use lib.ListN.{replicate}
 use Rattle.base_shared.specs.Lists.{Each}
 use Rattle.base_shared.specs.Refusals.{unless}
 use Rattle.irq.specs.Timing.{lineStep, lineLength}
-use Rattle.irq.specs.Clocks.{irqClockedTimes}
+use Rattle.irq_clocks.specs.Clocks.{irqClockedTimes}
 use Rattle.vrc6_banking.specs.Banking.{isB}
 use Rattle.vrc6_calls.specs.declared.Call.{Call}
 use Rattle.vrc6_calls.specs.declared.Call.the-variants.{Clock}

@@ -6,13 +6,13 @@ use native.Mathlib.Omega.{arith}
 use native.Mathlib.Nat.{mod-lt, mod-eq-of-lt}
 use lib.IntN.{pos}
 use borrow.Author.Tests.{ne-eqb, lt-ltb, le-ltb}
+use Rattle.memory_pages.specs.Pages.{entry, offset, unmapped}
+use Rattle.memory_pages.proofs.Entries.{offset-of}
 use Rattle.memory_layout.specs.declared.regions.MemoryLayout.{MemoryLayout}
 use Rattle.memory_layout.specs.declared.regions.Region.{Region}
 use Rattle.memory_layout.specs.declared.regions.Src.the-variants.{Chr}
-use Rattle.memory_layout.specs.Pages.{entry, offset, unmapped}
 use Rattle.memory_layout.specs.Layout.{region}
 use Rattle.memory_layout.proofs.Limited.{limits}
-use Rattle.memory_layout.proofs.Entries.{offset-of}
 use Rattle.memory_rule.specs.Rule.{base, bankCount}
 use Rattle.memory_rule.proofs.Shown.{ends}
 use Rattle.vrc6_tables.specs.Tables.{onePage}

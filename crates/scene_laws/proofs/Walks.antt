@@ -13,7 +13,7 @@ use Rattle.base_shared.proofs.Tests.{tested}
 use Rattle.registers.specs.Decode.{decode}
 use Rattle.irq.specs.declared.VrcIrq.{VrcIrq}
 use Rattle.irq.specs.Timing.{lineStep, lineLength}
-use Rattle.irq.specs.Clocks.{irqClockedTimes}
+use Rattle.irq_clocks.specs.Clocks.{irqClockedTimes}
 use Rattle.vrc6_calls.specs.declared.Call.{Call}
 use Rattle.vrc6_calls.specs.declared.Call.the-variants.{CpuWrite, Clock, SoftReset}
 use Rattle.vrc6_ledger.specs.Ledger.{event}

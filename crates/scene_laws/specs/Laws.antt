@@ -7,7 +7,7 @@ use Prim.Native.Nat.{ℕ, _+_, _^_, _≤_, _<_}
 use Rattle.base_shared.specs.Lists.{Each}
 use Rattle.irq.specs.declared.VrcIrq.{VrcIrq}
 use Rattle.irq.specs.Timing.{lineStep, lineLength}
-use Rattle.irq.specs.Clocks.{LeastClocks}
+use Rattle.irq_clocks.specs.Clocks.{LeastClocks}
 use Rattle.vrc6_calls.specs.declared.Call.{Call}
 use Rattle.vrc6.specs.Boards.{State, Creation}
 use Rattle.vrc6.specs.Calls.{create}

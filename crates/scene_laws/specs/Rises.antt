@@ -7,7 +7,7 @@ use Prim.Native.Nat.{ℕ, _+_, _≤_, _<_}
 use lib.ListN.{replicate}
 use Rattle.irq.specs.declared.VrcIrq.{VrcIrq}
 use Rattle.irq.specs.Timing.{lineStep, lineLength}
-use Rattle.irq.specs.Clocks.{irqClockedTimes}
+use Rattle.irq_clocks.specs.Clocks.{irqClockedTimes}
 use Rattle.vrc6_calls.specs.declared.Call.{Call}
 use Rattle.vrc6_calls.specs.declared.Call.the-variants.{Clock}
 use Rattle.vrc6.specs.Boards.{State}

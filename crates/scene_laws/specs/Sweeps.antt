@@ -6,7 +6,7 @@ use Prim.Native.Nat.{ℕ, _≤_, _<_}
 use lib.ListN.{length}
 use Rattle.base_shared.specs.Lists.{Each}
 use Rattle.irq.specs.Timing.{lineStep, lineLength}
-use Rattle.irq.specs.Clocks.{irqClockedTimes}
+use Rattle.irq_clocks.specs.Clocks.{irqClockedTimes}
 use Rattle.vrc6_calls.specs.declared.Call.{Call}
 use Rattle.vrc6.specs.Boards.{State, Creation}
 use Rattle.vrc6.specs.Calls.{create}

@@ -10,7 +10,7 @@ use Rattle.irq.specs.declared.VrcIrq.{VrcIrq}
 use Rattle.irq.specs.declared.IrqForecast.{IrqForecast}
 use Rattle.irq.specs.declared.IrqForecast.the-variants.{None, In}
 use Rattle.irq.specs.Timing.{lineStep, lineLength, forecastAnswer}
-use Rattle.irq.specs.Clocks.{irqClockedTimes}
+use Rattle.irq_clocks.specs.Clocks.{irqClockedTimes}
 use Rattle.scene_steps.specs.declared.step.Step.{Step}
 use Rattle.scene_steps.specs.Steps.{stepCoded}
 use Rattle.scene_steps.proofs.Walked.{Walked, none-taken, one-taken, all-taken}

@@ -10,10 +10,10 @@ use Rattle.irq.specs.declared.VrcIrq.{VrcIrq}
 use Rattle.irq.specs.declared.IrqForecast.the-variants.{None, In}
 use Rattle.irq.specs.Interrupt.{forecastIn}
 use Rattle.irq.specs.Timing.{lineStep, lineLength}
-use Rattle.irq.specs.Clocks.{Unset}
-use Rattle.irq.proofs.Runs.{idle-law}
-use Rattle.irq.proofs.Forecasts.{quiet-law, sooner-law}
 use Rattle.irq.proofs.Board.{pace}
+use Rattle.irq_clocks.specs.Clocks.{Unset}
+use Rattle.irq_clocks.proofs.Runs.{idle-law}
+use Rattle.irq_clocks.proofs.Forecasts.{quiet-law, sooner-law}
 use Rattle.scene_moments.specs.Moments.{clocksDue, dueFrom, dueWithin}
 
 -- not due within n, but due

@@ -9,8 +9,8 @@ use Rattle.irq.specs.declared.IrqForecast.{IrqForecast}
 use Rattle.irq.specs.declared.IrqForecast.the-variants.{None, In}
 use Rattle.irq.specs.Interrupt.{irqZero}
 use Rattle.irq.specs.Timing.{lineStep, lineLength, forecastAnswer}
-use Rattle.irq.specs.Clocks.{irqClockedTimes}
 use Rattle.irq.specs.Writes.{irqWrittenTo}
+use Rattle.irq_clocks.specs.Clocks.{irqClockedTimes}
 use Rattle.scene_steps.specs.declared.step.Step.{Step}
 use Rattle.scene_steps.specs.declared.step.Step.the-variants.{Write, Clocks, Reset, Wrong}
 use Rattle.scene_steps.specs.Steps.{stepCoded}
@@ -18,7 +18,7 @@ use Rattle.scene_moments.specs.declared.moment.Moment.{Moment}
 use Rattle.scene_moments.specs.declared.moment.Came.{Came}
 use Rattle.scene_moments.specs.declared.moment.Came.the-variants.{Never, On}
 
--- the clocks that a forecast means, 0 for never: one where it says 0, by irq's `ShortForecastLaw`
+-- the clocks that a forecast means, 0 for never: one where it says 0, by irq_clocks' `ShortForecastLaw`
 abbrev pub dueFrom : IrqForecast → ℕ
 dueFrom None = 0
 dueFrom (In n) = cond (eqb n 0) 1 n

@@ -3,7 +3,7 @@ use irq::IrqForecast;
 use irq::LINE;
 use irq::STEP;
 use irq::VrcIrq;
-use irq::clocks::clock_times;
+use irq_clocks::clocks::clock_times;
 use scene_steps::Step;
 use scene_steps::step::step_coded;
 ghost use mathlib.Core.Path.{_≡_};

@@ -13,7 +13,7 @@ use Rattle.base_steps.proofs.Iterated.{times-add}
 use Rattle.irq.specs.declared.VrcIrq.{VrcIrq}
 use Rattle.irq.specs.declared.IrqClocked.{IrqClocked}
 use Rattle.irq.specs.Timing.{lineStep, lineLength, clockAnswer}
-use Rattle.irq.specs.Clocks.{irqClockedTimes}
+use Rattle.irq_clocks.specs.Clocks.{irqClockedTimes}
 use Rattle.scene_moments.specs.declared.moment.Came.{Came}
 use Rattle.scene_moments.specs.declared.moment.Came.the-variants.{Never, On}
 use Rattle.scene_sweep.specs.declared.runs.Sweep.{Sweep}

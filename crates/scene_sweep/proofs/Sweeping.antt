@@ -6,7 +6,7 @@ use native.Mathlib.Omega.{arith}
 use Rattle.base_steps.specs.Times.{times}
 use Rattle.irq.specs.declared.VrcIrq.{VrcIrq}
 use Rattle.irq.specs.Timing.{lineStep, lineLength}
-use Rattle.irq.specs.Clocks.{irqClockedTimes}
+use Rattle.irq_clocks.specs.Clocks.{irqClockedTimes}
 use Rattle.scene_sweep.specs.declared.runs.Run.{Run}
 use Rattle.scene_sweep.specs.declared.runs.Sweep.{Sweep}
 use Rattle.scene_sweep.specs.declared.tally.Tally.{Tally}

@@ -7,7 +7,7 @@ use Prim.Native.Nat.{ℕ, _-_, _≤_, _<_}
 use lib.Dec.{eqb}
 use Rattle.irq.specs.declared.VrcIrq.{VrcIrq}
 use Rattle.irq.specs.Timing.{lineStep, lineLength}
-use Rattle.irq.specs.Clocks.{irqClockedTimes}
+use Rattle.irq_clocks.specs.Clocks.{irqClockedTimes}
 use Rattle.scene_sweep.specs.declared.runs.Sweep.{Sweep}
 use Rattle.scene_sweep.specs.declared.runs.Run.{Run}
 use Rattle.scene_moments.specs.declared.verdict.Verdict.{Verdict}

@@ -4,7 +4,7 @@ use audio_channels::pulse::Pulse;
 use audio_channels::saw::Saw;
 use base_floats::pattern::bits_of;
 use irq::VrcIrq;
-use memory_layout::Page;
+use memory_pages::Page;
 use text_output::ROOM;
 use text_output::put;
 use text_output::put_byte;

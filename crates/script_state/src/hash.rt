@@ -6,7 +6,7 @@ use audio_channels::saw::Saw;
 use base_floats::pattern::bits_of;
 use irq::VrcIrq;
 use memory_layout::MemoryLayout;
-use memory_layout::Page;
+use memory_pages::Page;
 use script_lines::fnv::FNV_START;
 use script_lines::fnv::fnv;
 use script_lines::fnv::fnv_byte;

@@ -6,7 +6,7 @@ use audio_channels::saw::Saw;
 use base_floats::pattern::float_of;
 use irq::VrcIrq;
 use memory_layout::MemoryLayout;
-use memory_layout::Page;
+use memory_pages::Page;
 use vrc6::Board;
 use vrc6_banking::banking::Banking;
 

@@ -8,7 +8,7 @@ use lib.ListN.{length}
 use Rattle.base_shared.specs.Refusals.{unless}
 use Rattle.base_shared.proofs.Tests.{unless-refused, unless-done}
 use Rattle.base_shared.proofs.Numbers.{none-fails}
-use Rattle.memory_layout.specs.declared.page.Page.{Page}
+use Rattle.memory_pages.specs.declared.page.Page.{Page}
 use Rattle.memory_layout.specs.declared.regions.MemoryLayout.{MemoryLayout}
 use Rattle.memory_layout.specs.Layout.{withinLimits, layoutChecks}
 use Rattle.memory_layout.specs.Entries.{entryInRange}

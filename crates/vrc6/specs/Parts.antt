@@ -6,7 +6,7 @@ use mathlib.Core.List.{List}
 use Prim.Native.Nat.{ℕ}
 use lib.ListN.{length}
 use Rattle.base_shared.specs.Refusals.{unless}
-use Rattle.memory_layout.specs.declared.page.Page.{Page}
+use Rattle.memory_pages.specs.declared.page.Page.{Page}
 use Rattle.memory_layout.specs.declared.regions.MemoryLayout.{MemoryLayout}
 use Rattle.memory_layout.specs.Layout.{withinLimits}
 use Rattle.memory_access.specs.Access.{accessRefusal, stored}

@@ -3,7 +3,7 @@ use audio::Audio;
 use audio::Level;
 use irq::VrcIrq;
 use memory_layout::MemoryLayout;
-use memory_layout::Page;
+use memory_pages::Page;
 use vrc6_banking::banking::Banking;
 pub use vrc6_engine::answers::Forecast;
 

@@ -4,7 +4,7 @@ use crate::board::Created;
 use audio::Audio;
 use irq::VrcIrq;
 use memory_layout::MemoryLayout;
-use memory_layout::Page;
+use memory_pages::Page;
 use vrc6_banking::banking::Banking;
 use vrc6_banking::banking::Settings;
 use vrc6_tables::chr_pages;

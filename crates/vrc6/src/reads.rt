@@ -6,7 +6,7 @@ use memory_access::access_refusal;
 use memory_access::peek;
 use memory_access::view;
 use memory_layout::MemoryLayout;
-use memory_layout::Page;
+use memory_pages::Page;
 use memory_tables::chr_table::chr_entry;
 use memory_tables::prg_table::prg_entry;
 ghost use mathlib.Core.Path.{_≡_};

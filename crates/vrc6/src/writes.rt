@@ -7,7 +7,7 @@ use memory_access::access_refusal;
 use memory_access::store;
 use memory_access::write;
 use memory_layout::MemoryLayout;
-use memory_layout::Page;
+use memory_pages::Page;
 use registers::BankRegister;
 use registers::Register;
 use registers::decode;

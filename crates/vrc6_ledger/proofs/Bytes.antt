@@ -5,8 +5,8 @@ use mathlib.Core.List.{List, _++_}
 use Prim.Native.Nat.{ℕ, _%_}
 use lib.ListN.{getD}
 use Rattle.base_shared.proofs.Tests.{unless-done}
-use Rattle.memory_layout.specs.declared.page.Page.{Page}
-use Rattle.memory_layout.specs.Pages.{unmapped, writable}
+use Rattle.memory_pages.specs.declared.page.Page.{Page}
+use Rattle.memory_pages.specs.Pages.{unmapped, writable}
 use Rattle.memory_tables.specs.Paging.{Side, cpu, picture, entryFor}
 use Rattle.memory_access.specs.Access.{peeked, written}
 use Rattle.memory_access.proofs.Stored.{byte-stored-law as stored-access, page-viewed-law as view-access}

@@ -11,7 +11,7 @@ use Rattle.base_shared.proofs.Tests.{both, and-left, and-right, either, tested}
 use Rattle.base_shared.proofs.Numbers.{none-fails}
 use Rattle.base_steps.proofs.Iterated.{keeps}
 use Rattle.base_steps.proofs.Falling.{one-clock}
-use Rattle.memory_layout.specs.Pages.{writable}
+use Rattle.memory_pages.specs.Pages.{writable}
 use Rattle.memory_layout.specs.Layout.{fixedLength, changingLength, withinLimits, lengthsFit}
 use Rattle.memory_layout.specs.Entries.{entryInRange}
 use Rattle.memory_tables.specs.Paging.{Side, cpu, picture, entryFor}

@@ -6,7 +6,7 @@ use mathlib.Core.Option.{Option}
 use Prim.Native.Nat.{ℕ, suc}
 use lib.ListN.{length, getD}
 use Rattle.base_shared.proofs.Tests.{either}
-use Rattle.memory_layout.specs.Pages.{unmapped}
+use Rattle.memory_pages.specs.Pages.{unmapped}
 use Rattle.memory_layout.specs.Entries.{entryInRange}
 use Rattle.memory_tables.specs.Paging.{Side, cpu, picture, entryCount}
 use Rattle.vrc6_banking.specs.declared.banking.Settings.{Settings}

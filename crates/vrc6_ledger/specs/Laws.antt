@@ -5,7 +5,7 @@ use mathlib.Core.Bool.{true, false}
 use mathlib.Core.List.{List, _++_}
 use Prim.Native.Nat.{ℕ, _+_, _/_, _%_, _<_}
 use lib.ListN.{length, getD}
-use Rattle.memory_layout.specs.Pages.{unmapped, writable}
+use Rattle.memory_pages.specs.Pages.{unmapped, writable}
 use Rattle.memory_layout.specs.Entries.{entryInRange}
 use Rattle.memory_tables.specs.Paging.{Side, cpu, picture, entryCount, entryFor}
 use Rattle.memory_access.specs.Access.{place}

@@ -8,8 +8,8 @@ use lib.Dec.{leb}
 use lib.ListN.{length, set, replicate}
 use Rattle.base_shared.specs.Bits.{bit}
 use Rattle.base_steps.specs.Times.{times}
-use Rattle.memory_layout.specs.declared.page.Page.{Page}
-use Rattle.memory_layout.specs.Pages.{offset, writable}
+use Rattle.memory_pages.specs.declared.page.Page.{Page}
+use Rattle.memory_pages.specs.Pages.{offset, writable}
 use Rattle.memory_tables.specs.Paging.{Side, cpu, picture, entryFor}
 use Rattle.registers.specs.declared.Register.{Register}
 use Rattle.registers.specs.declared.Register.the-variants.{Nothing, OfBank, OfAudio, OfIrq}

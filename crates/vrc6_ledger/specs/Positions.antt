@@ -8,8 +8,8 @@ use lib.Ieee.{binary32, toBits}
 use lib.ListN.{getD, replicate}
 use Rattle.base_shared.specs.Rows.{agree, flag}
 use Rattle.base_floats.specs.Wholes.{float}
+use Rattle.memory_pages.specs.Pages.{bits}
 use Rattle.memory_layout.specs.declared.regions.MemoryLayout.{MemoryLayout}
-use Rattle.memory_layout.specs.Pages.{bits}
 use Rattle.memory_tables.specs.Paging.{Side, cpu, picture}
 use Rattle.vrc6_slots.specs.declared.Mirroring.the-variants.{Vertical}
 use Rattle.vrc6_banking.specs.declared.banking.Revision.{Revision}

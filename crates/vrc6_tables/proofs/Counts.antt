@@ -8,10 +8,10 @@ use lib.IntN.{pos, negsuc}
 use lib.ListN.{length, getD, length-append, length-map, List·getD-append}
 use lib.Seq.{getD-append-add}
 use Rattle.base_shared.specs.Bits.{bit}
-use Rattle.memory_layout.specs.declared.page.Page.{Page}
+use Rattle.memory_pages.specs.declared.page.Page.{Page}
+use Rattle.memory_pages.specs.Pages.{unmapped}
 use Rattle.memory_layout.specs.declared.regions.MemoryLayout.{MemoryLayout}
 use Rattle.memory_layout.specs.declared.regions.Src.the-variants.{PrgRom, PrgRam, Chr}
-use Rattle.memory_layout.specs.Pages.{unmapped}
 use Rattle.memory_layout.specs.Layout.{region}
 use Rattle.memory_tables.specs.Paging.{cpu, picture, nothing, window}
 use Rattle.vrc6_banking.specs.declared.banking.Banking.{Banking}

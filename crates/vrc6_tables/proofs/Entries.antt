@@ -8,11 +8,11 @@ use lib.ListN.{getD}
 use Rattle.base_shared.specs.Bits.{bit}
 use Rattle.base_shared.specs.Lists.{tabulate}
 use Rattle.base_shared.proofs.Tests.{either}
-use Rattle.memory_layout.specs.declared.page.Page.{Page}
+use Rattle.memory_pages.specs.declared.page.Page.{Page}
+use Rattle.memory_pages.specs.Pages.{unmapped}
 use Rattle.memory_layout.specs.declared.regions.MemoryLayout.{MemoryLayout}
 use Rattle.memory_layout.specs.declared.regions.Src.{Src}
 use Rattle.memory_layout.specs.declared.regions.Src.the-variants.{PrgRom, PrgRam, Chr}
-use Rattle.memory_layout.specs.Pages.{unmapped}
 use Rattle.memory_layout.specs.Layout.{withinLimits, region}
 use Rattle.memory_layout.specs.Entries.{entryInRange}
 use Rattle.memory_layout.proofs.Entries.{unmapped-law}

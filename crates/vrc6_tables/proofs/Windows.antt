@@ -6,11 +6,11 @@ use lib.IntN.{ℤ, pos, negsuc}
 use lib.ListN.{getD, replicate}
 use Rattle.base_shared.specs.Bits.{bit}
 use Rattle.base_shared.specs.Lists.{tabulate}
-use Rattle.memory_layout.specs.declared.page.Page.{Page}
+use Rattle.memory_pages.specs.declared.page.Page.{Page}
+use Rattle.memory_pages.specs.Pages.{unmapped}
 use Rattle.memory_layout.specs.declared.regions.MemoryLayout.{MemoryLayout}
 use Rattle.memory_layout.specs.declared.regions.Region.{Region}
 use Rattle.memory_layout.specs.declared.regions.Src.the-variants.{PrgRom, PrgRam}
-use Rattle.memory_layout.specs.Pages.{unmapped}
 use Rattle.memory_layout.specs.Layout.{region}
 use Rattle.memory_rule.specs.declared.runs.EntryRun.{EntryRun}
 use Rattle.memory_tables.specs.Paging.{nothing, replaced, window}

@@ -3,8 +3,8 @@ use mathlib.Core.Path.{_≡_}
 use mathlib.Core.Bool.{true}
 use Prim.Native.Nat.{ℕ, _+_, _<_}
 use lib.ListN.{length, getD}
+use Rattle.memory_pages.specs.Pages.{unmapped}
 use Rattle.memory_layout.specs.declared.regions.MemoryLayout.{MemoryLayout}
-use Rattle.memory_layout.specs.Pages.{unmapped}
 use Rattle.memory_layout.specs.Layout.{withinLimits}
 use Rattle.memory_layout.specs.Entries.{entryInRange}
 use Rattle.memory_tables.specs.Paging.{Side, entryCount}

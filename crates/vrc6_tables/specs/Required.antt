@@ -3,7 +3,7 @@ use mathlib.Core.Bool.{Bool, cond}
 use mathlib.Core.List.{List}
 use Prim.Native.Nat.{_+_, _^_, _≤_}
 use lib.IntN.{pos}
-use Rattle.memory_layout.specs.declared.page.Page.{Page}
+use Rattle.memory_pages.specs.declared.page.Page.{Page}
 use Rattle.memory_layout.specs.declared.regions.Region.{Region}
 use Rattle.memory_tables.specs.Paging.{nothing, window}
 

@@ -9,9 +9,9 @@
 //              $2000..$2FFF  four nametables of 1 KiB of CIRAM, or of CHR if bit 4 of the mode is set
 //              $3000..$3FFF  the same four again
 use memory_layout::MemoryLayout;
-use memory_layout::Page;
 use memory_layout::Region;
 use memory_layout::Src;
+use memory_pages::Page;
 use memory_rule::first_page;
 use memory_rule::runs::EntryRun;
 use memory_rule::runs::holds;

@@ -4,7 +4,7 @@ use mathlib.Core.Bool.{true, false}
 use Prim.Native.Nat.{_-_}
 use lib.ListN.{length}
 use denote.Ref.{now}
-use Rattle.memory_layout.specs.Pages.{offset as offsetOf}
+use Rattle.memory_pages.specs.Pages.{offset as offsetOf}
 use Rattle.memory_tables.specs.Paging.{picture}
 use Rattle.vrc6.specs.Boards.{heldBy, entryOf}
 use Rattle.host_answers.proofs.Places.{at-refused, at-fixed, at-changing}

@@ -11,11 +11,11 @@ use Rattle.host_calls.proofs.Kit.{mut-tells, u8, u16, bool, owned, peek
 use Rattle.host_calls.proofs.Kit.{walkOf, goes-ref, ends-at, walked, walk-meets, stay-dropped, goes-dropped, gave-slice, goes-gave-slice, uint-vals, uint-tells, uint-lawful}
 use Rattle.host_calls.proofs.Kit.{uint-makes, bool-makes, sliceVal, ShrSlice, Room, slice-vals, shr-slice-tells, MutSlice, finally, mut-slice-tells, entered, cited}
 use denote.Struct.Laws as LL
-use Rattle.memory_layout.specs.Pages.{unmapped}
-use Rattle.memory_layout.specs.declared.page.Page.{Page}
+use Rattle.memory_pages.specs.Pages.{unmapped}
+use Rattle.memory_pages.specs.declared.page.Page.{Page}
+use Rattle.memory_pages.proofs.page.Page as P
+use Rattle.memory_pages.proofs.page.Page.Laws as P′
 use Rattle.memory_layout.specs.declared.regions.MemoryLayout.{MemoryLayout}
-use Rattle.memory_layout.proofs.page.Page as P
-use Rattle.memory_layout.proofs.page.Page.Laws as P′
 use Rattle.memory_layout.proofs.regions.MemoryLayout as L
 use Rattle.memory_layout.proofs.regions.MemoryLayout.Laws as L′
 use Rattle.memory_tables.specs.Paging.{cpu}

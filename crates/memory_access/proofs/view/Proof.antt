@@ -2,7 +2,7 @@
 use Rattle.memory_access.proofs.Buffers.{first-part, second-part}
 use Rattle.memory_access.proofs.Accepted.{inside, whole}
 use Rattle.memory_access.specs.Access.{pageBytes, plainRefusal, viewed}
-use Rattle.memory_layout.specs.Pages.{offset}
+use Rattle.memory_pages.specs.Pages.{offset}
 use Rattle.base_shared.proofs.Tests.{unless-refused, unless-done}
 use mathlib.Core.Bool.{true}
 use lib.ListN.{length}

@@ -6,7 +6,7 @@ use Prim.Native.Nat.{ℕ}
 use lib.IntN.{pos}
 use lib.ListN.{getD}
 use borrow.Author.Needs.{needs}
-use Rattle.memory_layout.specs.declared.page.Page.{Page}
+use Rattle.memory_pages.specs.declared.page.Page.{Page}
 use Rattle.memory_layout.specs.declared.regions.Region.{Region}
 use Rattle.memory_layout.specs.declared.regions.Src.the-variants.{PrgRom, PrgRam}
 use Rattle.memory_layout.specs.Layout.{region}

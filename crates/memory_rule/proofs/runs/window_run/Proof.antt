@@ -4,8 +4,8 @@ use Prim.Native.Nat.{_*_, _≤_}
 use native.Mathlib.Omega.{arith}
 use mir.Facts.{toZ-ofZ}
 use lib.IntN.{ℤ}
-use Rattle.memory_layout.specs.declared.page.Page.{Page}
-use Rattle.memory_layout.specs.Pages.{offset, pagesOn}
+use Rattle.memory_pages.specs.declared.page.Page.{Page}
+use Rattle.memory_pages.specs.Pages.{offset, pagesOn}
 use Rattle.memory_rule.specs.Rule.{shown}
 use Rattle.memory_rule.specs.Required.{runEntries}
 use Rattle.memory_rule.proofs.Unwrapped.{as-long, first-low, on-low, none-shown, run-shown}

@@ -2,9 +2,9 @@
 use mathlib.Core.Path.{ap, sym, _∙_}
 use mathlib.Core.Bool.{Bool, cond}
 use Prim.Native.Nat.{ℕ}
+use Rattle.memory_pages.specs.Pages.{offset}
 use Rattle.memory_layout.specs.declared.regions.Region.{Region}
 use Rattle.memory_layout.specs.declared.regions.Src.the-variants.{Chr}
-use Rattle.memory_layout.specs.Pages.{offset}
 use Rattle.memory_layout.specs.Layout.{region}
 use Rattle.memory_layout.proofs.Limited.{limits}
 use Rattle.scene_board.specs.Shown.{bankAt, noBank}

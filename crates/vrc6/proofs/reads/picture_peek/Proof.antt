@@ -2,9 +2,9 @@
 use mathlib.Core.Path.{ap, _∙_}
 use denote.Ref.{now}
 use borrow.Author.Needs.{needs}
-use Rattle.memory_layout.specs.declared.page.Page.{Page}
-use Rattle.memory_layout.specs.Pages.{serving}
-use Rattle.memory_layout.proofs.Entries.{lookup-law}
+use Rattle.memory_pages.specs.declared.page.Page.{Page}
+use Rattle.memory_pages.specs.Pages.{serving}
+use Rattle.memory_pages.proofs.Entries.{lookup-law}
 use Rattle.memory_access.specs.Access.{peeked}
 use Rattle.vrc6.proofs.reads.picture_peek.Statement.{statement}
 use Rattle.vrc6.proofs.reads.picture_peek.Tie as tie

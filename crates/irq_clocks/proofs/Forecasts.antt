@@ -10,12 +10,12 @@ use Rattle.base_shared.proofs.Tests.{tested}
 use Rattle.base_steps.specs.Times.{times, count}
 use Rattle.base_steps.specs.Falls.{Pace, runs, due}
 use Rattle.base_steps.proofs.Falling.{fall-due-law, due-plain-law}
 use Rattle.irq.specs.declared.VrcIrq.{VrcIrq}
 use Rattle.irq.specs.declared.IrqForecast.the-variants.{None, In}
 use Rattle.irq.specs.Interrupt.{irqAt, irqTicks, nextCounter, countsLines, forecastIn}
-use Rattle.irq.specs.Clocks.{irqClockedTimes, reported, Unset, irqSets, LeastClocks}
-use Rattle.irq.specs.Laws.{PendingLaw, GainLaw, QuietLaw, SoonerLaw, OneFirstLaw, NoneLaw, Exact, Late, ForecastLaw}
-use Rattle.irq.proofs.Runs.{after-clocks-law, lines-report, cycle-law}
+use Rattle.irq_clocks.specs.Clocks.{irqClockedTimes, reported, Unset, irqSets, LeastClocks}
+use Rattle.irq_clocks.specs.Laws.{PendingLaw, GainLaw, QuietLaw, SoonerLaw, OneFirstLaw, NoneLaw, Exact, Late, ForecastLaw}
+use Rattle.irq_clocks.proofs.Runs.{after-clocks-law, lines-report, cycle-law}
 
 pub pending-law : PendingLaw
 pending-law d l q = go (irqTicks d q) (eqb (q .counter) 255) (q .«irq_pending»)

@@ -8,12 +8,12 @@ use Rattle.base_steps.specs.Times.{times}
 use Rattle.base_steps.specs.Falls.{fallen, fell, runs}
 use Rattle.base_steps.proofs.Iterated.{still, count-same, count-none, count-all}
 use Rattle.base_steps.proofs.Falling.{tick-law}
 use Rattle.irq.specs.declared.VrcIrq.{VrcIrq}
 use Rattle.irq.specs.declared.IrqClocked.{IrqClocked}
 use Rattle.irq.specs.Interrupt.{irqAt, irqTicks, irqClocked, countsLines}
-use Rattle.irq.specs.Clocks.{irqClockedTimes, reported}
-use Rattle.irq.specs.Laws.{AfterClocksLaw, StretchLaw, CycleLaw, IdleLaw}
 use Rattle.irq.proofs.Ways.{idle}
+use Rattle.irq_clocks.specs.Clocks.{irqClockedTimes, reported}
+use Rattle.irq_clocks.specs.Laws.{AfterClocksLaw, StretchLaw, CycleLaw, IdleLaw}
 
 pub after-clocks-law : AfterClocksLaw
 unfolding times

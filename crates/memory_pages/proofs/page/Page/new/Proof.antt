@@ -1,7 +1,7 @@
 -- `Page::new` meets its contract. Assumes nothing.
 use borrow.Author.Needs.{needs}
-use Rattle.memory_layout.proofs.page.Page.new.Statement.{statement}
-use Rattle.memory_layout.proofs.page.Page.new.Tie as tie
+use Rattle.memory_pages.proofs.page.Page.new.Statement.{statement}
+use Rattle.memory_pages.proofs.page.Page.new.Tie as tie
 
 add-t5 : tie.Need-add-t5
 add-t5 c = search needs

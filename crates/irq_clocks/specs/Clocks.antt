@@ -5,9 +5,9 @@ use Prim.Native.Nat.{ℕ, suc, _+_, _≤_, _<_}
 use lib.Dec.{eqb}
 use Rattle.base_steps.specs.Times.{times, count}
 use Rattle.base_steps.specs.Falls.{fell, runs}
 use Rattle.irq.specs.declared.VrcIrq.{VrcIrq}
-use Rattle.irq.specs.declared.clocks.Lines.{Lines}
 use Rattle.irq.specs.Interrupt.{irqTicks, irqAnswer}
+use Rattle.irq_clocks.specs.declared.clocks.Lines.{Lines}
 
 -- the state after n clocks (01, Interrupt 1)
 abbrev pub irqClockedTimes : (d l n : ℕ) → VrcIrq → VrcIrq

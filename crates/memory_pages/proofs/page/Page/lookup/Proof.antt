@@ -1,8 +1,8 @@
 -- `Page::lookup` meets its contract. Assumes nothing.
 use mathlib.Core.Path.{sym, _∙_}
 use borrow.Author.Needs.{needs}
-use Rattle.memory_layout.proofs.page.Page.lookup.Statement.{statement}
-use Rattle.memory_layout.proofs.page.Page.lookup.Tie as tie
+use Rattle.memory_pages.proofs.page.Page.lookup.Statement.{statement}
+use Rattle.memory_pages.proofs.page.Page.lookup.Tie as tie
 
 is-unmapped-requires : tie.Need-is-unmapped-requires
 is-unmapped-requires c κs = search needs

@@ -1,10 +1,10 @@
 -- `lines_gone` meets its contract. Assumes nothing.
 use mathlib.Core.Path.{refl}
 use native.Mathlib.Omega.{arith}
-use Rattle.irq.proofs.Gains.{by-quotient, none-ended, gone}
+use Rattle.irq_clocks.proofs.Gains.{by-quotient, none-ended, gone}
 use borrow.Author.Needs.{needs}
-use Rattle.irq.proofs.clocks.lines_gone.Statement.{statement}
-use Rattle.irq.proofs.clocks.lines_gone.Tie as tie
+use Rattle.irq_clocks.proofs.clocks.lines_gone.Statement.{statement}
+use Rattle.irq_clocks.proofs.clocks.lines_gone.Tie as tie
 
 mul-fallen : tie.Need-mul-fallen
 mul-fallen c = search needs

@@ -1,7 +1,7 @@
 // A page entry. It has a type of its own, so that it is never taken for an offset or a bank number.
 ghost use mathlib.Core.Path.{_≡_};
 ghost use Prim.Native.Nat.{_+_, _*_, _^_, _<_};
-ghost use Rattle.memory_layout.specs.Pages.{bits, entry, found, isUnmapped, pageOfBits, offset, pagesOn, serving, spare, writable};
+ghost use Rattle.memory_pages.specs.Pages.{bits, entry, found, isUnmapped, pageOfBits, offset, pagesOn, serving, spare, writable};
 
 // Bits 0 to 29 hold an offset into the buffers, bit 31 says that the page takes writes, bit 30 is clear.
 #[repr(C)]

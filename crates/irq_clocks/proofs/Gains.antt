@@ -7,12 +7,12 @@ use native.Mathlib.Nat.{mul-le-mul-right, div-eq-of-lt}
 use Rattle.base_steps.specs.Falls.{Pace, fell, runs}
 use Rattle.base_steps.proofs.Balance.{ran}
 use Rattle.base_steps.proofs.Falling.{fall-range-law, worked-out-law}
 use Rattle.irq.specs.declared.VrcIrq.{VrcIrq}
-use Rattle.irq.specs.declared.clocks.Lines.{Lines}
 use Rattle.irq.specs.Interrupt.{countsLines, irqAt}
-use Rattle.irq.specs.Clocks.{irqClockedTimes, reported, linesGone, Unset}
-use Rattle.irq.proofs.Runs.{lines-report, cycle-law}
-use Rattle.irq.proofs.Forecasts.{gain-law}
+use Rattle.irq_clocks.specs.declared.clocks.Lines.{Lines}
+use Rattle.irq_clocks.specs.Clocks.{irqClockedTimes, reported, linesGone, Unset}
+use Rattle.irq_clocks.proofs.Runs.{lines-report, cycle-law}
+use Rattle.irq_clocks.proofs.Forecasts.{gain-law}
 
 -- what holds of the t lines that end within n clocks
 pub record Ended (d l p n t : ℕ) : Type 0 where

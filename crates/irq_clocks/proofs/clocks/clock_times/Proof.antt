@@ -2,10 +2,10 @@
 use mathlib.Core.Path.{sym, _∙_}
 use native.Mathlib.Omega.{arith}
 use borrow.Author.Needs.{needs}
-use Rattle.irq.proofs.Runs.{idle-law}
-use Rattle.irq.proofs.Gains.{cycles-low, by-cycles, few, lines-low, by-lines}
-use Rattle.irq.proofs.clocks.clock_times.Statement.{statement}
-use Rattle.irq.proofs.clocks.clock_times.Tie as tie
+use Rattle.irq_clocks.proofs.Runs.{idle-law}
+use Rattle.irq_clocks.proofs.Gains.{cycles-low, by-cycles, few, lines-low, by-lines}
+use Rattle.irq_clocks.proofs.clocks.clock_times.Statement.{statement}
+use Rattle.irq_clocks.proofs.clocks.clock_times.Tie as tie
 
 gained-requires : tie.Need-gained-requires
 gained-requires c κs = omega (arith, cycles-low _ _ _ (c .before .before .args .irq) (c .before .before .pre .1) (c .before .if1 .taken) (c .if2 .taken))

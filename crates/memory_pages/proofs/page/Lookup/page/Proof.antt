@@ -1,7 +1,7 @@
 -- `Lookup::page` meets its contract. Assumes nothing.
 use borrow.Author.Needs.{needs}
-use Rattle.memory_layout.proofs.page.Lookup.page.Statement.{statement}
-use Rattle.memory_layout.proofs.page.Lookup.page.Tie as tie
+use Rattle.memory_pages.proofs.page.Lookup.page.Statement.{statement}
+use Rattle.memory_pages.proofs.page.Lookup.page.Tie as tie
 
 enum-told : tie.Need-enum-told
 enum-told c = search needs

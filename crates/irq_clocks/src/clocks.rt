@@ -1,10 +1,10 @@
 // The counter after some clocks, for any step and line length: a division gives what ticks, so that none of them is clocked.
-use crate::VrcIrq;
+use irq::VrcIrq;
 ghost use mathlib.Core.Path.{_≡_};
 ghost use Prim.Native.Nat.{_+_, _*_, _^_, _≤_, _<_, min};
 ghost use Rattle.base_steps.specs.Falls.{Pace};
 ghost use Rattle.irq.specs.Interrupt.{irqAt};
-ghost use Rattle.irq.specs.Clocks.{irqClockedTimes, linesGone, Unset};
+ghost use Rattle.irq_clocks.specs.Clocks.{irqClockedTimes, linesGone, Unset};
 
 // The lines that end within some clocks, and the prescaler after them.
 pub struct Lines {

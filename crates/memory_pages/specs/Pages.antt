@@ -4,9 +4,9 @@ use mathlib.Core.Bool.{Bool, cond}
 use Prim.Native.Nat.{ℕ, _+_, _*_, _%_, _^_}
 use lib.Dec.{eqb}
 use Rattle.base_shared.specs.Bits.{bit}
-use Rattle.memory_layout.specs.declared.page.Page.{Page}
-use Rattle.memory_layout.specs.declared.page.Lookup.{Lookup}
-use Rattle.memory_layout.specs.declared.page.Lookup.the-variants.{Unmapped, Mapped}
+use Rattle.memory_pages.specs.declared.page.Page.{Page}
+use Rattle.memory_pages.specs.declared.page.Lookup.{Lookup}
+use Rattle.memory_pages.specs.declared.page.Lookup.the-variants.{Unmapped, Mapped}
 
 -- the entry of an offset: bits 0 to 29 the offset, bit 31 writable (01, Records 3; memory.rs, Page::new)
 abbrev pub entry : (at : ℕ) → Bool → Page

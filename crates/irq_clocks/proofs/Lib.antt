@@ -1,0 +1,4 @@
+pub mod Runs
+pub mod Forecasts
+pub mod Gains
+pub mod Board
