@@ -1,8 +1,8 @@
 // The whole state of a board as five lines.
 use base_floats::pattern::bits_of;
 use audio::Audio;
-use audio_channels::pulse::Pulse;
-use audio_channels::saw::Saw;
+use audio_pulse::Pulse;
+use audio_saw::Saw;
 use irq::VrcIrq;
 use memory_layout::Page;
 use text_output::ROOM;
