@@ -38,10 +38,11 @@ valueCount = 38
 abbrev pub valueForms : List ℕ
 valueForms = codes "aq aq dq dq dq dq fq cq cq cq -q -q -q -q -q -q -q -q -q -q -q -q -q -q dq -q -q -q -q -q -q -q -q -q -q -q -q -q"
 
--- the fields of a layout, and of a channel
+-- the fields of a layout
 abbrev pub layoutFields : List ℕ
 layoutFields = codes "prg chr writable ram ciram"
 
+-- the fields of a channel
 abbrev pub channelFields : List ℕ
 channelFields = codes "enabled volume duty ignore-duty frequency timer step shift accumulator rate"
 

@@ -78,6 +78,7 @@ abbrev pub valueRule : List ℕ → List ℕ → Reading
 valueRule word rest =
     cond (ltb (placeIn valueWords word) 6) (right (valueNumber (placeIn valueWords word)) rest) (judged 4 (markedNumber 10 largest word) rest)
 
+-- a value, by that rule
 unfoldable pub valueAfter : Reading → Reading
 valueAfter r = following valueRule r
 
