@@ -2,7 +2,8 @@
 use mathlib.Core.Path.{_≡_}
 use mathlib.Core.Bool.{true}
 use Rattle.base_floats.specs.Wholes.{isSum}
-use Rattle.audio_channels.specs.Required.{PulseIn, SawIn}
+use Rattle.audio_pulse.specs.Required.{PulseIn}
+use Rattle.audio_saw.specs.Required.{SawIn}
 use Rattle.audio.specs.declared.Audio.{Audio}
 
 -- the whole sound state

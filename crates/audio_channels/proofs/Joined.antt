@@ -7,10 +7,13 @@ use mathlib.Core.List.{List, [], _∷_}
 use lib.Dec.{leb, eqb}
 use borrow.Author.Tests.{leb-true, le-leb, eqb-true, eqb-false, eq-eqb}
 use Rattle.base_shared.proofs.Tests.{and-left, and-right, both}
-use Rattle.audio_channels.specs.declared.pulse.Pulse.{Pulse}
-use Rattle.audio_channels.specs.declared.saw.Saw.{Saw}
-use Rattle.audio_channels.specs.Ranges.{isShift, pulseInRange, sawInRange, channelsInRange}
-use Rattle.audio_channels.specs.Required.{ChannelIn, PulseIn, SawIn}
+use Rattle.audio_pulse.specs.declared.Pulse.{Pulse}
+use Rattle.audio_saw.specs.declared.Saw.{Saw}
+use Rattle.audio_shared.specs.Ranges.{isShift}
+use Rattle.audio_channels.specs.Ranges.{pulseInRange, sawInRange, channelsInRange}
+use Rattle.audio_shared.specs.Required.{ChannelIn}
+use Rattle.audio_pulse.specs.Required.{PulseIn}
+use Rattle.audio_saw.specs.Required.{SawIn}
 use Rattle.audio_channels.proofs.Ranged.{three, pulse-in, pulse-tested, saw-in, saw-tested}
 
 -- ---- tests that are joined one after another

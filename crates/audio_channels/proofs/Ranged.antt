@@ -6,10 +6,13 @@ use mathlib.Core.Bool.{Bool, true, false, _&&_, _||_, false≢true}
 use lib.Dec.{leb, eqb}
 use borrow.Author.Tests.{leb-true, le-leb, eqb-true}
 use Rattle.base_shared.proofs.Tests.{and-left, and-right, both}
-use Rattle.audio_channels.specs.declared.pulse.Pulse.{Pulse}
-use Rattle.audio_channels.specs.declared.saw.Saw.{Saw}
-use Rattle.audio_channels.specs.Ranges.{isShift, channelInRange, pulseInRange, sawInRange}
-use Rattle.audio_channels.specs.Required.{ChannelIn, PulseIn, SawIn}
+use Rattle.audio_pulse.specs.declared.Pulse.{Pulse}
+use Rattle.audio_saw.specs.declared.Saw.{Saw}
+use Rattle.audio_shared.specs.Ranges.{isShift, channelInRange}
+use Rattle.audio_channels.specs.Ranges.{pulseInRange, sawInRange}
+use Rattle.audio_shared.specs.Required.{ChannelIn}
+use Rattle.audio_pulse.specs.Required.{PulseIn}
+use Rattle.audio_saw.specs.Required.{SawIn}
 
 -- what two, three and four joined tests say
 two : (a b : Bool) → (a && b) ≡ true → (a ≡ true) × (b ≡ true)

@@ -1,10 +1,6 @@
-// The channels of the sound: pulse and saw, their registers, clocks and levels (`Pulse` and `Saw` of the Rust).
-pub mod channel;
-pub mod pulse;
-pub mod saw;
-
-use crate::pulse::Pulse;
-use crate::saw::Saw;
+// The channels of the sound together: the test of their ranges.
+use audio_pulse::Pulse;
+use audio_saw::Saw;
 ghost use mathlib.Core.Path.{_≡_};
 ghost use Rattle.audio_channels.specs.Ranges.{channelsInRange};
 

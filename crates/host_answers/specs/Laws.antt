@@ -1,16 +1,12 @@
--- Laws of what the lent forms answer, for every board, buffer and number; `proofs/` proves them. Assumes nothing.
+-- The law of the place of a page, for every board, buffer and address; `proofs/` proves it. Assumes nothing.
 use mathlib.Core.Path.{_≡_}
 use mathlib.Core.Bool.{cond}
 use mathlib.Core.List.{List}
 use Prim.Native.Nat.{ℕ, _+_, _≤_}
 use lib.ListN.{length, take, drop}
-use Rattle.vrc6.specs.Boards.{State, Creation}
-use Rattle.vrc6.specs.Calls.{create, pageView, pageViewRefusal}
-use Rattle.host_answers.specs.Encoded.{numbersOf, createdBy, pageAt}
-
--- creation by the numbers of settings is creation by these (01, The board's calls 1)
-abbrev pub CreateNumberedLaw : Type 0
-CreateNumberedLaw = (c : Creation) → createdBy (c .layout) (numbersOf (c .settings)) (c .fixed) (c .changing) ≡ create c
+use Rattle.vrc6.specs.Boards.{State}
+use Rattle.vrc6.specs.Calls.{pageView, pageViewRefusal}
+use Rattle.host_answers.specs.Encoded.{pageAt}
 
 -- the buffer that `pageAt` places a page in
 abbrev pub bufferOf : State → (address : ℕ) → List ℕ

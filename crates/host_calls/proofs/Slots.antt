@@ -7,7 +7,7 @@ use denote.Slice.{sliceTy}
 use denote.Signature.{Slot, plain, shrSliceOf}
 use Rattle.memory_layout.proofs.regions.MemoryLayout as L
 use Rattle.vrc6.proofs.board.Board as B
-use Rattle.host_answers.proofs.NumberedSettings as N
+use Rattle.host_creation.proofs.NumberedSettings as N
 
 abbrev pub BoardS : Slot 3
 BoardS = plain (λ _. B.the-row)

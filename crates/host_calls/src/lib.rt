@@ -4,15 +4,15 @@
 // zero board. Board and buffers cross as references, an answer as a number or a small struct.
 use host_answers::EncodedForecast;
 use host_answers::EncodedLevel;
-use host_answers::NumberedSettings;
 use host_answers::PageAt;
 use host_answers::clock_numbered;
-use host_answers::create_numbered;
 use host_answers::encode_forecast;
 use host_answers::encode_level;
 use host_answers::page_at;
 use host_answers::reset_board;
 use host_answers::steady_clock;
+use host_creation::NumberedSettings;
+use host_creation::create_numbered;
 use memory_access::Peeked;
 use memory_layout::MemoryLayout;
 use vrc6::Board;
@@ -26,7 +26,8 @@ ghost use mathlib.Core.Path.{_≡_};
 ghost use Rattle.memory_tables.specs.Paging.{cpu, picture};
 ghost use Rattle.vrc6.specs.Boards.{heldBy};
 ghost use Rattle.vrc6.specs.Calls.{byteRead, clock, cpuWrite, cpuWriteLeft, forecast, level, pictureWrite, pictureWriteLeft, reset};
-ghost use Rattle.host_answers.specs.Encoded.{clockNumbered, createdBy, forecastEncoded, levelEncoded, pageAt, steadyClocked};
+ghost use Rattle.host_creation.specs.Numbers.{createdBy};
+ghost use Rattle.host_answers.specs.Encoded.{clockNumbered, forecastEncoded, levelEncoded, pageAt, steadyClocked};
 ghost use Rattle.host_calls.specs.Answers.{byteAnswer, tickAnswer, tickDecoded};
 
 // Creation by numbers, since no enum crosses. A refused create leaves the zero board. The answer is the refusal's number.

@@ -7,8 +7,8 @@ use Rattle.vrc6.specs.declared.board.Board.{Board}
 use Rattle.vrc6.specs.declared.board.Created.{Created}
 use Rattle.vrc6.specs.Boards.{State, heldBy}
 use Rattle.vrc6_calls.specs.Lists.{after}
-use Rattle.host_answers.specs.declared.NumberedSettings.{NumberedSettings}
-use Rattle.host_answers.specs.Encoded.{createdBy}
+use Rattle.host_creation.specs.declared.NumberedSettings.{NumberedSettings}
+use Rattle.host_creation.specs.Numbers.{createdBy}
 use Rattle.scene_board.specs.declared.ended.Ended.{Ended}
 use Rattle.scene_board.specs.Ended.{doneState, endIn, endOf, slotsShown, writtenState}
 use Rattle.scene_board.specs.Played.{callsOf}

@@ -1,8 +1,8 @@
 // A scene's writes and menu, played on a board of its own: the interrupt counter, and the banks that the eight slots show.
 use crate::play;
 use crate::shown::bank_shown;
-use host_answers::NumberedSettings;
-use host_answers::create_numbered;
+use host_creation::NumberedSettings;
+use host_creation::create_numbered;
 use irq::VrcIrq;
 use memory_layout::MemoryLayout;
 use memory_pages::Page;

@@ -17,7 +17,7 @@ use Rattle.vrc6.specs.Calls.{create}
 use Rattle.vrc6_calls.specs.Lists.{next, after}
 use Rattle.vrc6_ledger.specs.Demand3.{start}
 use Rattle.vrc6_ledger.proofs.Whole.{demand3}
-use Rattle.host_answers.proofs.Numbers.{create-numbered-law}
+use Rattle.host_creation.proofs.Numbers.{create-numbered-law}
 use Rattle.scene_steps.specs.declared.step.Step.{Step}
 use Rattle.scene_steps.specs.declared.step.Step.the-variants.{Write, Clocks, Reset, Wrong}
 use Rattle.scene_steps.specs.Steps.{stepCoded}

@@ -11,7 +11,7 @@ use Rattle.vrc6.specs.Boards.{State, Creation}
 use Rattle.vrc6.specs.Calls.{create}
 use Rattle.vrc6_calls.specs.Lists.{after}
 use Rattle.vrc6_ledger.specs.Demand3.{start}
-use Rattle.host_answers.specs.Encoded.{numbersOf}
+use Rattle.host_creation.specs.Numbers.{numbersOf}
 use Rattle.scene_board.specs.declared.ended.Ended.{Ended}
 use Rattle.scene_board.specs.Ended.{endOf, slotsShown}
 use Rattle.scene_board.specs.Played.{callsOf}

@@ -2,7 +2,7 @@
 // vrc6_ledger.
 use crate::scene::MOST_STEPS;
 use crate::scene::Scene;
-use host_answers::NumberedSettings;
+use host_creation::NumberedSettings;
 use irq::VrcIrq;
 use memory_layout::MemoryLayout;
 use scene_board::ended::Ended;

@@ -1,7 +1,7 @@
 // The whole state of a board as five lines.
 use audio::Audio;
-use audio_channels::pulse::Pulse;
-use audio_channels::saw::Saw;
+use audio_pulse::Pulse;
+use audio_saw::Saw;
 use base_floats::pattern::bits_of;
 use irq::VrcIrq;
 use memory_pages::Page;

@@ -1,8 +1,8 @@
 // A hash of a whole board, so that two of them can be compared: one other byte in one field gives another hash.
 use crate::value::flag;
 use audio::Audio;
-use audio_channels::pulse::Pulse;
-use audio_channels::saw::Saw;
+use audio_pulse::Pulse;
+use audio_saw::Saw;
 use base_floats::pattern::bits_of;
 use irq::VrcIrq;
 use memory_layout::MemoryLayout;

@@ -1,8 +1,8 @@
 // A board's parts with another value, by the places of the values' names (script_lines, `valueNames`). A number that is too large for
 // its field is taken by its low bits, and a flag is set by any number but 0.
 use audio::Audio;
-use audio_channels::pulse::Pulse;
-use audio_channels::saw::Saw;
+use audio_pulse::Pulse;
+use audio_saw::Saw;
 use base_floats::pattern::float_of;
 use irq::VrcIrq;
 use memory_layout::MemoryLayout;

@@ -1,7 +1,7 @@
 // The values of a board's parts, by the places of their names (script_lines, `valueNames`). Another place is 0.
 use audio::Audio;
-use audio_channels::pulse::Pulse;
-use audio_channels::saw::Saw;
+use audio_pulse::Pulse;
+use audio_saw::Saw;
 use base_floats::pattern::bits_of;
 use irq::VrcIrq;
 use memory_layout::MemoryLayout;

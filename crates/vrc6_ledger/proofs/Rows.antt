@@ -12,8 +12,8 @@ use Rattle.vrc6_banking.specs.declared.banking.Revision.{Revision}
 use Rattle.vrc6_slots.specs.Chr.{chrSlots}
 use Rattle.vrc6_slots.specs.Nametables.{nametableNumbers, nametableMirroring}
 use Rattle.vrc6_tables.specs.Tables.{cpuEntries, pictureEntries}
-use Rattle.audio_channels.specs.Pulses.{pulseWritten, pulseClocked, pulseLevel}
-use Rattle.audio_channels.specs.Saws.{sawWritten, sawClocked, sawLevel}
+use Rattle.audio_pulse.specs.Pulses.{pulseWritten, pulseClocked, pulseLevel}
+use Rattle.audio_saw.specs.Saws.{sawWritten, sawClocked, sawLevel}
 use Rattle.audio.specs.Sound.{audioWritten, audioClocked}
 use Rattle.vrc6_calls.specs.declared.Call.{Call}
 use Rattle.vrc6.specs.Boards.{State, Creation}

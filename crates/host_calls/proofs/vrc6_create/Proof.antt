@@ -9,7 +9,7 @@ use Rattle.host_calls.proofs.Kit.{fld, store, Body, whole, sub, look-in
 use Rattle.host_calls.proofs.Kit.{onEntry, Meets, tripleOf, Contract, Triple, calls-at, lasts, says, Stays, stay-ref, walkOf, goes-ref, ends-at, walked, walk-meets, stay-dropped}
 use Rattle.host_calls.proofs.Kit.{goes-dropped, uint-lawful, uint-makes, sliceVal, ShrSlice, Room, slice-vals, shr-slice-tells, entered, cited}
 use denote.Struct.Laws as LL
-use Rattle.host_answers.specs.Encoded.{createdBy}
+use Rattle.host_creation.specs.Numbers.{createdBy}
 use Rattle.memory_layout.specs.declared.regions.MemoryLayout.{MemoryLayout}
 use Rattle.vrc6.specs.declared.board.Board.{Board}
 use Rattle.vrc6.specs.declared.board.Created.{Created}
@@ -19,12 +19,12 @@ use Rattle.vrc6.proofs.board.Board as B
 use Rattle.vrc6.proofs.board.Board.Laws as B′
 use Rattle.vrc6.proofs.board.Created as T
 use Rattle.vrc6.proofs.board.Created.Laws as T′
-use Rattle.host_answers.specs.declared.NumberedSettings.{NumberedSettings}
-use Rattle.host_answers.proofs.NumberedSettings as N
-use Rattle.host_answers.proofs.NumberedSettings.Laws as N′
-use Rattle.host_answers.proofs.create_numbered as callee
-use Rattle.host_answers.proofs.create_numbered.Symbol as callee-def
-use Rattle.host_answers.proofs.create_numbered.Met as callee-thm
+use Rattle.host_creation.specs.declared.NumberedSettings.{NumberedSettings}
+use Rattle.host_creation.proofs.NumberedSettings as N
+use Rattle.host_creation.proofs.NumberedSettings.Laws as N′
+use Rattle.host_creation.proofs.create_numbered as callee
+use Rattle.host_creation.proofs.create_numbered.Symbol as callee-def
+use Rattle.host_creation.proofs.create_numbered.Met as callee-thm
 use Rattle.host_calls.proofs.Elements.{order, frees-all, answered}
 use Rattle.host_calls.proofs.Held.{vB, vL, opened, closed}
 use Rattle.host_calls.proofs.Slots.{BoardS, LayoutS, SettingsS, FixedS, ChangingS}
@@ -144,4 +144,4 @@ vrc6-create-spec 𝓤 H 𝓜 𝓖 𝓡 =
     entered 𝓤 H (tripleOf 𝓤 H (𝓖 .A) lent.signature (lent.spec 𝓤 H (𝓖 .A) (𝓜 .mem) (𝓡 .run)))
     (tables 𝓤 H 𝓜 𝓡 code.env .C) (tables 𝓤 H 𝓜 𝓡 code.env .Λ) #lent code.function (code.unfolded 𝓤 H 𝓜 𝓡)
     (lent-meets 𝓤 H (𝓖 .A) (givenOf 𝓤 H 𝓜 𝓖) (𝓜 .mem) (𝓡 .run) (tablesOf 𝓤 H 𝓜 (tables 𝓤 H 𝓜 𝓡 code.env))
-    (cited 𝓤 H (Call 𝓤 H (𝓖 .A) (𝓜 .mem) (𝓡 .run)) 𝓜 𝓡 code.env callee-def.name callee-def.routine code.calls-host-answers·create-numbered (callee-thm.met 𝓤 H 𝓜 𝓖 𝓡)))
+    (cited 𝓤 H (Call 𝓤 H (𝓖 .A) (𝓜 .mem) (𝓡 .run)) 𝓜 𝓡 code.env callee-def.name callee-def.routine code.calls-host-creation·create-numbered (callee-thm.met 𝓤 H 𝓜 𝓖 𝓡)))

@@ -1,0 +1,2 @@
+pub mod Pulses
+pub mod Required

@@ -1,0 +1,2 @@
+pub mod Saws
+pub mod Required

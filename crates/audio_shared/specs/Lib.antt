@@ -1,0 +1,3 @@
+pub mod Channels
+pub mod Ranges
+pub mod Required
