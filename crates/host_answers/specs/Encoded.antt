@@ -21,6 +21,7 @@ use Rattle.audio.specs.declared.Level.{Level}
 use Rattle.audio.specs.declared.Level.the-variants.{Silent, Held, Playing, Refused as NoLevel}
 use Rattle.irq.specs.Timing.{clockAnswer}
 use Rattle.audio.specs.Sound.{withTimers}
+use Rattle.vrc6_parts.specs.Checks.{allZero}
 use Rattle.vrc6.specs.declared.board.Board.{Board}
 use Rattle.vrc6.specs.declared.board.Clocked.{Clocked}
 use Rattle.vrc6.specs.declared.board.Created.{Created}
@@ -28,7 +29,6 @@ use Rattle.vrc6_engine.specs.declared.steady.Steady.{Steady}
 use Rattle.vrc6_engine.specs.declared.answers.Forecast.{Forecast}
 use Rattle.vrc6_engine.specs.declared.answers.Forecast.the-variants.{None, In, Refused}
 use Rattle.vrc6.specs.Boards.{State, entryOf, withEngine, zeroBoard}
-use Rattle.vrc6.specs.Checks.{allZero}
 use Rattle.vrc6.specs.Calls.{clock, create, pageViewRefusal}
 use Rattle.host_answers.specs.declared.EncodedLevel.{EncodedLevel}
 use Rattle.host_answers.specs.declared.EncodedForecast.{EncodedForecast}

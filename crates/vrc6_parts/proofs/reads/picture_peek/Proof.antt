@@ -1,4 +1,4 @@
--- `cpu_peek` meets its contract: the lookup loses nothing. Assumes nothing.
+-- `picture_peek` meets its contract: the lookup loses nothing. Assumes nothing.
 use mathlib.Core.Path.{ap, _∙_}
 use denote.Ref.{now}
 use borrow.Author.Needs.{needs}
@@ -6,8 +6,8 @@ use Rattle.memory_layout.specs.declared.page.Page.{Page}
 use Rattle.memory_layout.specs.Pages.{serving}
 use Rattle.memory_layout.proofs.Entries.{lookup-law}
 use Rattle.memory_access.specs.Access.{peeked}
-use Rattle.vrc6.proofs.reads.cpu_peek.Statement.{statement}
-use Rattle.vrc6.proofs.reads.cpu_peek.Tie as tie
+use Rattle.vrc6_parts.proofs.reads.picture_peek.Statement.{statement}
+use Rattle.vrc6_parts.proofs.reads.picture_peek.Tie as tie
 
 lookup-requires : tie.Need-lookup-requires
 lookup-requires c κs = search needs
@@ -25,5 +25,5 @@ returns c =
     ∙ ap (λ (e : Page). peeked (a .layout) e (now (a .fixed)) (now (a .changing)) (a .addr))
     (c .before .page .ensures ∙ ap serving (c .before .before .lookup .ensures) ∙ lookup-law (a .entry))
 
-pub cpu-peek-spec : {M : Type 1} → statement M
-cpu-peek-spec = tie.close (tie.spec lookup-requires page-requires peek-requires returns)
+pub picture-peek-spec : {M : Type 1} → statement M
+picture-peek-spec = tie.close (tie.spec lookup-requires page-requires peek-requires returns)
