@@ -11,6 +11,7 @@ use Rattle.audio.specs.declared.Level.{Level}
 use Rattle.audio.specs.declared.Level.the-variants.{Silent, Held, Playing, Refused as NoLevel}
 use Rattle.irq.specs.Timing.{clockAnswer}
 use Rattle.audio.specs.Sound.{withTimers}
+use Rattle.vrc6_parts.specs.Checks.{allZero}
 use Rattle.vrc6.specs.declared.board.Board.{Board}
 use Rattle.vrc6.specs.declared.board.Clocked.{Clocked}
 use Rattle.vrc6_engine.specs.declared.steady.Steady.{Steady}

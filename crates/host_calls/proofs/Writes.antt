@@ -9,17 +9,18 @@ use borrow.Author.Tests.{eq-eqb}
 use Rattle.memory_layout.specs.Layout.{withinLimits}
 use Rattle.memory_tables.specs.Paging.{cpu}
 use Rattle.registers.specs.Decode.{decode}
+use Rattle.vrc6_parts.specs.Parts.{byteLeft, partOf}
 use Rattle.vrc6.specs.declared.board.Board.{Board}
 use Rattle.vrc6.specs.declared.board.Written.{Written}
 use Rattle.vrc6.specs.Boards.{State, heldBy, entryOf}
 use Rattle.vrc6.specs.Checks.{cpuWriteRefusal, registerChecks}
 use Rattle.vrc6.specs.Calls.{writtenAt, cpuWrite, cpuWriteLeft}
-use Rattle.vrc6.specs.Parts.{Reaches, byteLeft, partOf}
+use Rattle.vrc6.specs.Reaches.{Reaches}
 use Rattle.vrc6.proofs.Stores.{cpu-refused, cpu-done, none-written}
 use Rattle.vrc6.proofs.board.Board as B
 use Rattle.vrc6.proofs.board.Board.Laws as B′
-use Rattle.vrc6.proofs.writes.write_byte as byte
-use Rattle.vrc6.proofs.writes.reached as reached
+use Rattle.vrc6_parts.proofs.writes.write_byte as byte
+use Rattle.vrc6_parts.proofs.writes.reached as reached
 use Rattle.host_calls.proofs.Elements.{answered}
 use Rattle.host_calls.proofs.Held.{vB}
 

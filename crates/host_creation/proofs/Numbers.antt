@@ -19,8 +19,8 @@ use Rattle.vrc6_banking.specs.declared.banking.Revision.{Revision}
 use Rattle.vrc6_banking.specs.declared.banking.Revision.the-variants.{A, B}
 use Rattle.vrc6_banking.specs.declared.banking.Settings.{Settings}
 use Rattle.vrc6_banking.specs.Banking.{mirroringNumber, isB}
+use Rattle.vrc6_parts.specs.Checks.{allZero, creationRefusal}
 use Rattle.vrc6.specs.Boards.{Creation, newBoard, zeroBoard}
-use Rattle.vrc6.specs.Checks.{allZero, creationRefusal}
 use Rattle.vrc6.specs.Calls.{create}
 use Rattle.host_creation.specs.declared.NumberedSettings.{NumberedSettings}
 use Rattle.host_creation.specs.Numbers.{mirroringNumbered, revisionNumbered, settingsNumbered, settingsNamed, numbersOf, numberedRefusal, createdBy}

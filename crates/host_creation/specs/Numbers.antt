@@ -16,7 +16,7 @@ use Rattle.vrc6_banking.specs.declared.banking.Settings.{Settings}
 use Rattle.vrc6_banking.specs.Banking.{mirroringNumber, isB}
 use Rattle.vrc6.specs.declared.board.Created.{Created}
 use Rattle.vrc6.specs.Boards.{zeroBoard}
-use Rattle.vrc6.specs.Checks.{allZero}
+use Rattle.vrc6_parts.specs.Checks.{allZero}
 use Rattle.vrc6.specs.Calls.{create}
 use Rattle.host_creation.specs.declared.NumberedSettings.{NumberedSettings}
 

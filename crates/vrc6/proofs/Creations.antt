@@ -9,8 +9,9 @@ use Rattle.memory_layout.specs.declared.regions.MemoryLayout.{MemoryLayout}
 use Rattle.memory_layout.specs.Layout.{layoutChecks}
 use Rattle.memory_layout.specs.Required.{Limits}
 use Rattle.memory_layout.proofs.Limited.{limits}
+use Rattle.vrc6_parts.specs.Checks.{allZero, creationRefusal}
 use Rattle.vrc6.specs.Boards.{Creation, newBoard, zeroBoard}
-use Rattle.vrc6.specs.Checks.{allZero, creationRefusal, createRefusal}
+use Rattle.vrc6.specs.Checks.{createRefusal}
 use Rattle.vrc6.specs.Calls.{create}
 
 -- the layout of a creation that is not refused is within the limits

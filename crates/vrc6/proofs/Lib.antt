@@ -1,4 +1,3 @@
 pub mod Creations
 pub mod Engines
 pub mod Stores
-pub mod Zeros

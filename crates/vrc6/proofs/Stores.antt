@@ -18,12 +18,12 @@ use Rattle.registers.specs.declared.Register.{Register}
 use Rattle.registers.specs.declared.Register.the-variants.{Nothing, OfBank, OfAudio, OfIrq}
 use Rattle.irq.specs.Writes.{irqWrittenTo}
 use Rattle.audio.specs.Sound.{audioWrittenTo}
+use Rattle.vrc6_parts.specs.Parts.{byteLeft, partOf}
 use Rattle.vrc6.specs.declared.board.Board.{Board}
 use Rattle.vrc6.specs.declared.board.Written.{Written}
 use Rattle.vrc6.specs.Boards.{State, entryOf, withEngine}
 use Rattle.vrc6.specs.Checks.{memoryRefusal, registerChecks, cpuWriteRefusal}
 use Rattle.vrc6.specs.Calls.{registerWritten, writtenAt, storedAt, pictureWritten, pictureWriteLeft, pictureWrite, cpuWritten, cpuWriteLeft, cpuWrite}
-use Rattle.vrc6.specs.Parts.{byteLeft, partOf}
 
 -- a call that is not refused has its layout within the limits
 pub limited : (l : MemoryLayout) (e : Page) (fixed changing : ℕ) (others : Bool) → accessRefusal l e fixed changing others ≡ 0 → withinLimits l ≡ true

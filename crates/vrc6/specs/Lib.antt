@@ -1,4 +1,4 @@
 pub mod Boards
 pub mod Checks
 pub mod Calls
-pub mod Parts
+pub mod Reaches

@@ -1,48 +1,17 @@
 // The calls that change nothing: CPU read, picture read, page view.
 use crate::board::Board;
 use crate::board::ByteRead;
-use memory_access::Peeked;
 use memory_access::access_refusal;
-use memory_access::peek;
 use memory_access::view;
-use memory_layout::MemoryLayout;
 use memory_pages::Page;
 use memory_tables::chr_table::chr_entry;
 use memory_tables::prg_table::prg_entry;
+use vrc6_parts::reads::cpu_peek;
+use vrc6_parts::reads::picture_peek;
 ghost use mathlib.Core.Path.{_≡_};
-ghost use Rattle.memory_access.specs.Access.{peeked};
 ghost use Rattle.memory_tables.specs.Paging.{cpu, picture};
 ghost use Rattle.vrc6.specs.Boards.{entryOf, heldBy};
 ghost use Rattle.vrc6.specs.Calls.{byteRead, pageView, pageViewRefusal};
-
-// What a CPU read gives through an entry, by the parts of a board that it needs. Here an unmapped entry is told apart: it
-// shows the fixed buffer's first page, which creation wants zero.
-pub fn cpu_peek(
-    layout: MemoryLayout,
-    entry: Page,
-    fixed: &[u8],
-    changing: &[u8],
-    addr: u16,
-) -> Peeked
-    ensures { λ r. ⌜ r ≡ peeked layout entry (now (fixed .entry)) (now (changing .entry)) addr ⌝ }
-{
-    let found = entry.lookup();
-    peek(layout, found.page(), fixed, changing, addr)
-}
-
-// The same for a picture read.
-pub fn picture_peek(
-    layout: MemoryLayout,
-    entry: Page,
-    fixed: &[u8],
-    changing: &[u8],
-    addr: u16,
-) -> Peeked
-    ensures { λ r. ⌜ r ≡ peeked layout entry (now (fixed .entry)) (now (changing .entry)) addr ⌝ }
-{
-    let shown = entry.lookup();
-    peek(layout, shown.page(), fixed, changing, addr)
-}
 
 impl Board {
     // The entry that serves a CPU address.

@@ -19,7 +19,8 @@ use Rattle.vrc6_banking.specs.declared.banking.Revision.the-variants.{A, B}
 use Rattle.vrc6_slots.specs.Chr.{chrSlots}
 use Rattle.vrc6_tables.specs.Tables.{pictureEntries}
 use Rattle.vrc6_calls.specs.declared.Call.the-variants.{Clock}
-use Rattle.vrc6.specs.Checks.{allZero, createRefusal}
+use Rattle.vrc6_parts.specs.Checks.{allZero}
+use Rattle.vrc6.specs.Checks.{createRefusal}
 use Rattle.vrc6_ledger.specs.Ledger.{event, ledgerOf}
 use Rattle.vrc6_ledger.specs.Refused.{createChecks}
 use Rattle.vrc6_ledger.specs.Demand3.{Quiet, CountsLines, Stretch, stretchTicks}

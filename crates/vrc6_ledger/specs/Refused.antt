@@ -10,8 +10,9 @@ use Rattle.memory_layout.specs.Layout.{withinLimits, lengthsFit}
 use Rattle.memory_layout.specs.Entries.{entryInRange}
 use Rattle.memory_tables.specs.Paging.{Side, cpu, picture}
 use Rattle.vrc6_calls.specs.declared.Call.{Call}
+use Rattle.vrc6_parts.specs.Checks.{allZero}
 use Rattle.vrc6.specs.Boards.{State, Creation, zeroBoard, entryOf}
-use Rattle.vrc6.specs.Checks.{allZero, engineInRange, registerChecks}
+use Rattle.vrc6.specs.Checks.{engineInRange, registerChecks}
 use Rattle.vrc6.specs.Calls.{create}
 use Rattle.vrc6_calls.specs.Lists.{Shape, reads, writes, views, asks, shape, Given, given, parts, refusalIn, next}
 

@@ -30,17 +30,17 @@ use Rattle.irq.proofs.VrcIrq.Laws as I′
 use Rattle.audio.specs.declared.Audio.{Audio}
 use Rattle.audio.proofs.Audio as S
 use Rattle.audio.proofs.Audio.Laws as S′
+use Rattle.vrc6_parts.specs.Parts.{partOf}
 use Rattle.vrc6.specs.declared.board.Board.{Board}
 use Rattle.vrc6.specs.Boards.{entryOf}
 use Rattle.vrc6.proofs.board.Board as B
 use Rattle.vrc6.proofs.board.Board.Laws as B′
-use Rattle.vrc6.specs.Parts.{partOf}
-use Rattle.vrc6.proofs.writes.write_byte as byte
-use Rattle.vrc6.proofs.writes.write_byte.Symbol as byte-def
-use Rattle.vrc6.proofs.writes.write_byte.Met as byte-thm
-use Rattle.vrc6.proofs.writes.reached as reached
-use Rattle.vrc6.proofs.writes.reached.Symbol as reached-def
-use Rattle.vrc6.proofs.writes.reached.Met as reached-thm
+use Rattle.vrc6_parts.proofs.writes.write_byte as byte
+use Rattle.vrc6_parts.proofs.writes.write_byte.Symbol as byte-def
+use Rattle.vrc6_parts.proofs.writes.write_byte.Met as byte-thm
+use Rattle.vrc6_parts.proofs.writes.reached as reached
+use Rattle.vrc6_parts.proofs.writes.reached.Symbol as reached-def
+use Rattle.vrc6_parts.proofs.writes.reached.Met as reached-thm
 use Rattle.vrc6.proofs.board.Board.write_banks.Symbol as banks-def
 use Rattle.vrc6.proofs.board.Board.write_banks.Met as banks-thm
 use Rattle.vrc6.proofs.board.Board.write_sound.Symbol as sound-def
@@ -229,8 +229,8 @@ vrc6-cpu-write-spec 𝓤 H 𝓜 𝓖 𝓡 =
     entered 𝓤 H (tripleOf 𝓤 H (𝓖 .A) lent.signature (lent.spec 𝓤 H (𝓖 .A) (𝓜 .mem) (𝓡 .run)))
     (tables 𝓤 H 𝓜 𝓡 code.env .C) (tables 𝓤 H 𝓜 𝓡 code.env .Λ) #write-lent code.function (code.unfolded 𝓤 H 𝓜 𝓡)
     (lent-meets 𝓤 H (𝓖 .A) (givenOf 𝓤 H 𝓜 𝓖) (𝓜 .mem) (𝓡 .run) (tablesOf 𝓤 H 𝓜 (tables 𝓤 H 𝓜 𝓡 code.env))
-    (cited 𝓤 H (Byte 𝓤 H (𝓖 .A) (𝓜 .mem) (𝓡 .run)) 𝓜 𝓡 code.env byte-def.name byte-def.routine code.calls-vrc6·writes·write-byte (byte-thm.met 𝓤 H 𝓜 𝓖 𝓡))
-    (cited 𝓤 H (Reached 𝓤 H (𝓖 .A) (𝓜 .mem) (𝓡 .run)) 𝓜 𝓡 code.env reached-def.name reached-def.routine code.calls-vrc6·writes·reached (reached-thm.met 𝓤 H 𝓜 𝓖 𝓡))
+    (cited 𝓤 H (Byte 𝓤 H (𝓖 .A) (𝓜 .mem) (𝓡 .run)) 𝓜 𝓡 code.env byte-def.name byte-def.routine code.calls-vrc6-parts·writes·write-byte (byte-thm.met 𝓤 H 𝓜 𝓖 𝓡))
+    (cited 𝓤 H (Reached 𝓤 H (𝓖 .A) (𝓜 .mem) (𝓡 .run)) 𝓜 𝓡 code.env reached-def.name reached-def.routine code.calls-vrc6-parts·writes·reached (reached-thm.met 𝓤 H 𝓜 𝓖 𝓡))
     (cited 𝓤 H (Taking 1 𝓤 H (𝓖 .A)) 𝓜 𝓡 code.env banks-def.name banks-def.routine code.calls-vrc6·board·Board·write-banks (banks-thm.met 𝓤 H 𝓜 𝓖 𝓡))
     (cited 𝓤 H (Taking 2 𝓤 H (𝓖 .A)) 𝓜 𝓡 code.env sound-def.name sound-def.routine code.calls-vrc6·board·Board·write-sound (sound-thm.met 𝓤 H 𝓜 𝓖 𝓡))
     (cited 𝓤 H (Taking 3 𝓤 H (𝓖 .A)) 𝓜 𝓡 code.env line-def.name line-def.routine code.calls-vrc6·board·Board·write-line (line-thm.met 𝓤 H 𝓜 𝓖 𝓡)))

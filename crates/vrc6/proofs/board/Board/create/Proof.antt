@@ -3,8 +3,8 @@ use mathlib.Core.Path.{_≡_, sym, ap, ap₂, _∙_}
 use denote.Ref.{now}
 use Prim.Native.Nat.{ℕ}
 use Rattle.memory_layout.proofs.Limited.{limits}
+use Rattle.vrc6_parts.specs.Checks.{creationRefusal}
 use Rattle.vrc6.specs.Boards.{Creation}
-use Rattle.vrc6.specs.Checks.{creationRefusal}
 use Rattle.vrc6.proofs.Creations.{within, created-refused, created}
 use borrow.Author.Needs.{needs}
 use Rattle.vrc6.proofs.board.Board.create.Statement.{statement}

@@ -2,8 +2,8 @@
 use mathlib.Core.Path.{_≡_, sym, ap, _∙_}
 use native.Mathlib.Omega.{arith}
 use Rattle.registers.specs.declared.Register.{Register}
+use Rattle.vrc6_parts.specs.Parts.{partOf}
 use Rattle.vrc6.specs.Calls.{registerWritten}
-use Rattle.vrc6.specs.Parts.{partOf}
 use borrow.Author.Needs.{needs}
 use Rattle.vrc6.proofs.board.Board.write_banks.Statement.{statement}
 use Rattle.vrc6.proofs.board.Board.write_banks.Tie as tie

@@ -2,10 +2,10 @@
 use mathlib.Core.Path.{_≡_, sym, ap, _∙_}
 use Rattle.registers.specs.declared.Register.{Register}
 use Rattle.registers.proofs.Both.{nothing-law}
-use Rattle.vrc6.specs.Parts.{partOf}
+use Rattle.vrc6_parts.specs.Parts.{partOf}
 use borrow.Author.Needs.{needs}
-use Rattle.vrc6.proofs.writes.reached.Statement.{statement}
-use Rattle.vrc6.proofs.writes.reached.Tie as tie
+use Rattle.vrc6_parts.proofs.writes.reached.Statement.{statement}
+use Rattle.vrc6_parts.proofs.writes.reached.Tie as tie
 
 decode-requires : tie.Need-decode-requires
 decode-requires c κs = search needs

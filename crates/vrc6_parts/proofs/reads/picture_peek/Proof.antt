@@ -6,8 +6,8 @@ use Rattle.memory_pages.specs.declared.page.Page.{Page}
 use Rattle.memory_pages.specs.Pages.{serving}
 use Rattle.memory_pages.proofs.Entries.{lookup-law}
 use Rattle.memory_access.specs.Access.{peeked}
-use Rattle.vrc6.proofs.reads.picture_peek.Statement.{statement}
-use Rattle.vrc6.proofs.reads.picture_peek.Tie as tie
+use Rattle.vrc6_parts.proofs.reads.picture_peek.Statement.{statement}
+use Rattle.vrc6_parts.proofs.reads.picture_peek.Tie as tie
 
 lookup-requires : tie.Need-lookup-requires
 lookup-requires c κs = search needs

@@ -1,8 +1,8 @@
 -- `values_in_range` meets its contract. Assumes nothing.
 use borrow.Author.Tests.{lt-ltb, le-ltb}
 use borrow.Author.Needs.{needs}
-use Rattle.vrc6.proofs.writes.values_in_range.Statement.{statement}
-use Rattle.vrc6.proofs.writes.values_in_range.Tie as tie
+use Rattle.vrc6_parts.proofs.writes.values_in_range.Statement.{statement}
+use Rattle.vrc6_parts.proofs.writes.values_in_range.Tie as tie
 
 returns : tie.Need-returns
 returns c = rw (lt-ltb _ _ (c .if1 .taken))

@@ -9,7 +9,7 @@ use lib.Dec.{eqb}
 use lib.ListN.{length, getD, take, drop}
 use lib.Seq.{drop-cons}
 use borrow.Author.Tests.{eq-eqb, ne-eqb}
-use Rattle.vrc6.specs.Checks.{allZero}
+use Rattle.vrc6_parts.specs.Checks.{allZero}
 
 module _ (s : List ℕ) (n i : ℕ) (h : i < n) (k : i < length s) where
   -- the bytes from i on, up to n, are byte i and those behind it

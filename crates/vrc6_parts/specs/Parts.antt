@@ -1,19 +1,15 @@
 -- What the functions inside a CPU write say: its byte by the parts of a board that are checked, and the part of the board that its register belongs to.
 -- No call's contract cites them. Assumes nothing.
-use mathlib.Core.Path.{_≡_}
-use mathlib.Core.Bool.{Bool, true}
+use mathlib.Core.Bool.{Bool}
 use mathlib.Core.List.{List}
 use Prim.Native.Nat.{ℕ}
 use lib.ListN.{length}
 use Rattle.base_shared.specs.Refusals.{unless}
 use Rattle.memory_pages.specs.declared.page.Page.{Page}
 use Rattle.memory_layout.specs.declared.regions.MemoryLayout.{MemoryLayout}
-use Rattle.memory_layout.specs.Layout.{withinLimits}
 use Rattle.memory_access.specs.Access.{accessRefusal, stored}
 use Rattle.registers.specs.declared.Register.{Register}
 use Rattle.registers.specs.declared.Register.the-variants.{Nothing, OfBank, OfAudio, OfIrq}
-use Rattle.registers.specs.Decode.{decode}
-use Rattle.vrc6.specs.declared.board.Board.{Board}
 
 -- the changing buffer after a CPU write's byte, which goes through the entry where the write is not refused (01, Paging 2)
 abbrev pub byteLeft : MemoryLayout → Page → (others : Bool) → (fixed changing : List ℕ) → (address byte : ℕ) → List ℕ
@@ -26,8 +22,3 @@ partOf Nothing = 0
 partOf (OfBank _) = 1
 partOf (OfAudio _) = 2
 partOf (OfIrq _) = 3
-
--- a board within the limits, and an address that reaches this part of it (01, Banks and decode 1)
-pub record Reaches (part : ℕ) (b : Board) (address : ℕ) : Type 0 where
-  pub limits : withinLimits (b .layout) ≡ true
-  pub reached : partOf (decode (b .banking .«revision_b») address) ≡ part

@@ -12,10 +12,10 @@ use Rattle.base_shared.specs.Refusals.{firstFailing}
 use Rattle.base_shared.proofs.Tests.{first-refused, and-left}
 use Rattle.base_shared.proofs.Numbers.{none-fails, decided-behind}
 use Rattle.memory_layout.specs.Layout.{layoutChecks, fixedLength, changingLength}
-use Rattle.vrc6.specs.Checks.{allZero, creationRefusal}
+use Rattle.vrc6_parts.specs.Checks.{allZero, creationRefusal}
 use borrow.Author.Needs.{needs}
-use Rattle.vrc6.proofs.create.create_refusal.Statement.{statement}
-use Rattle.vrc6.proofs.create.create_refusal.Tie as tie
+use Rattle.vrc6_parts.proofs.create.create_refusal.Statement.{statement}
+use Rattle.vrc6_parts.proofs.create.create_refusal.Tie as tie
 
 refusal-requires : tie.Need-refusal-requires
 refusal-requires c κs = search needs

@@ -6,10 +6,10 @@ use denote.Ref.{now}
 use Rattle.base_shared.proofs.Tests.{unless-refused, unless-done}
 use Rattle.memory_access.specs.Access.{accessRefusal, stored}
 use Rattle.memory_access.proofs.Accepted.{placed}
-use Rattle.vrc6.specs.Checks.{valuesInRange}
+use Rattle.vrc6_parts.specs.Checks.{valuesInRange}
 use borrow.Author.Needs.{needs}
-use Rattle.vrc6.proofs.writes.write_byte.Statement.{statement}
-use Rattle.vrc6.proofs.writes.write_byte.Tie as tie
+use Rattle.vrc6_parts.proofs.writes.write_byte.Statement.{statement}
+use Rattle.vrc6_parts.proofs.writes.write_byte.Tie as tie
 
 values-in-range-requires : tie.Need-values-in-range-requires
 values-in-range-requires c κs = search needs

@@ -5,10 +5,10 @@ use native.Mathlib.Omega.{arith}
 use borrow.Author.Needs.{needs}
 use denote.Ref.{now}
 use lib.ListN.{take, drop}
-use Rattle.vrc6.specs.Checks.{allZero}
-use Rattle.vrc6.proofs.Zeros.{zero-on, not-zero}
-use Rattle.vrc6.proofs.create.first_page_is_zero.Statement.{statement}
-use Rattle.vrc6.proofs.create.first_page_is_zero.Tie as tie
+use Rattle.vrc6_parts.specs.Checks.{allZero}
+use Rattle.vrc6_parts.proofs.Zeros.{zero-on, not-zero}
+use Rattle.vrc6_parts.proofs.create.first_page_is_zero.Statement.{statement}
+use Rattle.vrc6_parts.proofs.create.first_page_is_zero.Tie as tie
 
 abbrev Inv-loop : tie.InvT-loop
 Inv-loop fixed i₀ i = (i ≤ 1024) × (allZero (take (1024 - i) (drop i fixed)) ≡ allZero (take 1024 fixed))
