@@ -32,8 +32,8 @@ impl Player {
         Player { options, rig: None, last: Answer::default(), tally: Tally::default() }
     }
 
-    /// Plays a line, and puts what it prints behind the text.
-    pub fn play(&mut self, line: &Line, o: &mut String) {
+    /// Plays the line of a number, and puts what it prints behind the text.
+    pub fn play(&mut self, number: u32, line: &Line, o: &mut String) {
         match line {
             Line::Nothing => {}
             Line::Heading(text) => {
@@ -42,7 +42,7 @@ impl Player {
             Line::Create(setup, bytes) => self.create(*setup, bytes, o),
             Line::Poke(place, v) => self.poke(place, *v),
             Line::Lend => self.rig = None,
-            Line::Expect(row) => self.tally.row(o, row, self.rig.as_ref(), &self.last),
+            Line::Expect(row) => self.tally.row(o, number, row, self.rig.as_ref(), &self.last),
             Line::Call(call) => self.call(call, o),
         }
     }

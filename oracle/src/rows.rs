@@ -101,17 +101,20 @@ pub struct Tally {
 }
 
 impl Tally {
-    /// Counts a row, and prints it if the original can play it.
-    pub fn row(&mut self, o: &mut String, row: &Row, rig: Option<&Rig>, last: &Answer) {
+    /// Counts a row, and prints it if the original can play it; a wrong one with the number of its line.
+    pub fn row(&mut self, o: &mut String, number: u32, row: &Row, rig: Option<&Rig>, last: &Answer) {
         self.rows += 1;
         let Some(got) = rig.and_then(|r| row.subject.seen(r, last)) else {
             self.not_played += 1;
             return;
         };
-        let right = got == row.expected;
-        self.wrong += u32::from(!right);
-        let verdict = if right { "ok   " } else { "WRONG" };
-        let _ = writeln!(o, "{verdict} {}: expected {}, got {got}", row.label, row.expected);
+        let verdict = if got == row.expected {
+            "ok    ".to_string()
+        } else {
+            self.wrong += 1;
+            format!("WRONG line {number}, ")
+        };
+        let _ = writeln!(o, "{verdict}{}: expected {}, got {got}", row.label, row.expected);
     }
     /// The line behind a script; nothing if it had no row.
     pub fn count(&self, o: &mut String, file: &str) {

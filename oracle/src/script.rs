@@ -9,14 +9,13 @@ use crate::{
 /// What is wrong with a line.
 pub type Wrong = &'static str;
 
-const UNKNOWN_CALL: Wrong = "unknown call";
-const UNKNOWN_NAME: Wrong = "unknown name";
-const MISSING: Wrong = "an argument is missing";
+const UNKNOWN_LINE: Wrong = "no such line";
+const MISSING: Wrong = "a word is missing";
 const NO_HEXADECIMAL: Wrong = "no hexadecimal number";
 const NO_DECIMAL: Wrong = "no decimal number";
 const TOO_LARGE: Wrong = "the number is too large";
-const TOO_MANY: Wrong = "too many arguments";
-const NO_CHOICE: Wrong = "none of the two letters";
+const TOO_MANY: Wrong = "too many words";
+const NO_CHOICE: Wrong = "none of the words that can stand there";
 
 /// The bytes of the buffers on which a board is created.
 pub enum Bytes {
@@ -50,7 +49,7 @@ pub enum Line<'a> {
     Call(Call),
 }
 
-/// The words of a line, one after the other.
+/// The words of a line in small letters, one after the other.
 struct Words<'a> {
     words: Vec<&'a str>,
     at: usize,
@@ -69,9 +68,13 @@ fn number(word: &str, base: u32, limit: u32) -> Result<u32, Wrong> {
     u32::from_str_radix(digits, base).ok().filter(|n| *n <= limit).ok_or(TOO_LARGE)
 }
 
+fn words(line: &str) -> impl Iterator<Item = &str> {
+    line.split(is_blank).filter(|w| !w.is_empty())
+}
+
 impl<'a> Words<'a> {
     fn of(line: &'a str) -> Self {
-        Words { words: line.split(is_blank).filter(|w| !w.is_empty()).collect(), at: 0 }
+        Words { words: words(line).collect(), at: 0 }
     }
     fn next(&mut self) -> Result<&'a str, Wrong> {
         self.at += 1;
@@ -112,7 +115,7 @@ impl<'a> Words<'a> {
 
 fn settings(w: &mut Words, s: Setup) -> Result<Setup, Wrong> {
     let mirroring = mirroring(w.decimal(4)?);
-    let rev = if w.second("A", "B")? { Revision::B } else { Revision::A };
+    let rev = if w.second("a", "b")? { Revision::B } else { Revision::A };
     Ok(Setup { mirroring, rev, ..s })
 }
 
@@ -137,7 +140,7 @@ fn filled(w: &mut Words) -> Result<Setup, Wrong> {
 fn layout_place(w: &mut Words) -> Result<Place, Wrong> {
     match w.next()? {
         "prg" | "chr" | "writable" | "ram" | "ciram" => Ok(Place::Layout),
-        _ => Err(UNKNOWN_NAME),
+        _ => Err(NO_CHOICE),
     }
 }
 
@@ -146,12 +149,12 @@ fn place(name: &str, w: &mut Words) -> Result<Place, Wrong> {
         "entry" => w.address().map(Place::Entry),
         "picture-entry" => w.address().map(Place::PictureEntry),
         "layout" => layout_place(w),
-        "pulse1" | "pulse2" | "saw" => Place::channel(name, w.next()?).ok_or(UNKNOWN_NAME),
+        "pulse1" | "pulse2" | "saw" => Place::channel(name, w.next()?).ok_or(NO_CHOICE),
         "chr" => w.decimal(7).map(|n| Place::Chr(n as usize)),
         "nametable" => w.decimal(3).map(|n| Place::Nametable(n as usize)),
         "fixed" => w.length().map(Place::Fixed),
         "changing" => w.length().map(Place::Changing),
-        _ => Place::single(name).ok_or(UNKNOWN_NAME),
+        _ => Place::single(name).ok_or(NO_CHOICE),
     }
 }
 
@@ -185,10 +188,11 @@ fn expected(name: &str, word: &str) -> Result<Seen, Wrong> {
     })
 }
 
-fn row(w: &mut Words) -> Result<Row, Wrong> {
+/// A row shows what it looks at as the line has it.
+fn row(w: &mut Words, line: &str) -> Result<Row, Wrong> {
     let name = w.next()?;
     let subject = subject(name, w)?;
-    let label = w.words[1..w.at].join(" ");
+    let label = words(line).take(w.at).skip(1).collect::<Vec<_>>().join(" ");
     Ok(Row { subject, label, expected: expected(name, w.next()?)? })
 }
 
@@ -201,40 +205,41 @@ fn poke<'a>(w: &mut Words) -> Result<Line<'a>, Wrong> {
 fn lend<'a>(w: &mut Words) -> Result<Line<'a>, Wrong> {
     match w.next()? {
         "fixed" | "changing" => w.length().map(|_| Line::Lend),
-        _ => Err(UNKNOWN_NAME),
+        _ => Err(NO_CHOICE),
     }
 }
 
 fn call(name: &str, w: &mut Words) -> Result<Call, Wrong> {
     Ok(match name {
-        "R" | "read" => Call::Read(w.address()?),
-        "W" | "write" => Call::Write(w.address()?, w.byte()?),
-        "P" | "picture-read" => Call::PictureRead(w.address()?),
-        "Q" | "picture-write" => Call::PictureWrite(w.address()?, w.byte()?),
-        "C" | "clock" => Call::Clock(w.decimal(u32::MAX)?),
-        "Z" | "reset" => Call::Reset(w.hard()?),
-        "L" | "level" => Call::Level,
-        "V" | "view" => Call::View(w.address()?),
-        "F" | "forecast" => Call::Forecast,
-        "G" => Call::Registers,
-        "H" => Call::Buffers,
-        "D" => Call::Dump,
-        _ => return Err(UNKNOWN_CALL),
+        "r" | "read" => Call::Read(w.address()?),
+        "w" | "write" => Call::Write(w.address()?, w.byte()?),
+        "p" | "picture-read" => Call::PictureRead(w.address()?),
+        "q" | "picture-write" => Call::PictureWrite(w.address()?, w.byte()?),
+        "c" | "clock" => Call::Clock(w.decimal(u32::MAX)?),
+        "z" | "reset" => Call::Reset(w.hard()?),
+        "l" | "level" => Call::Level,
+        "v" | "view" => Call::View(w.address()?),
+        "f" | "forecast" => Call::Forecast,
+        "g" => Call::Registers,
+        "h" => Call::Buffers,
+        "d" => Call::Dump,
+        _ => return Err(UNKNOWN_LINE),
     })
 }
 
 pub fn parse(line: &str) -> Result<Line<'_>, Wrong> {
-    let mut w = Words::of(line);
+    let small = line.to_ascii_lowercase();
+    let mut w = Words::of(&small);
     let parsed = match w.next() {
         Err(_) => return Ok(Line::Nothing),
         Ok(first) if first.starts_with('#') => return Ok(Line::Nothing),
         Ok("=") => return Ok(Line::Heading(line.trim_matches(is_blank)[1..].trim_start_matches(is_blank))),
-        Ok("S") => Line::Create(settings(&mut w, LAYOUT_S)?, Bytes::Zeros),
-        Ok("N") => Line::Create(filled(&mut w)?, Bytes::Filled),
+        Ok("s") => Line::Create(settings(&mut w, LAYOUT_S)?, Bytes::Zeros),
+        Ok("n") => Line::Create(filled(&mut w)?, Bytes::Filled),
         Ok("create") => Line::Create(layout(&mut w)?, Bytes::AsTheyAre),
         Ok("poke") => poke(&mut w)?,
         Ok("lend") => lend(&mut w)?,
-        Ok("expect") => Line::Expect(row(&mut w)?),
+        Ok("expect") => Line::Expect(row(&mut w, line)?),
         Ok(name) => Line::Call(call(name, &mut w)?),
     };
     w.end()?;

@@ -3,7 +3,9 @@
 pub mod arguments;
 pub mod fill;
 pub mod fnv;
+pub mod kinds;
 pub mod line;
+pub mod values;
 
 pub use line::Line;
 pub use line::call_of;

@@ -1,6 +1,6 @@
-// What scripts ask and print of a board, by its parts: values by their names' places, what a call answered, the dump, the hash.
+// What scripts ask and print of a board: its numbers, values by their names' places, what a call answered, the dump.
+pub mod board;
 pub mod dump;
-pub mod hash;
-pub mod poke;
+pub mod numbers;
+pub mod places;
 pub mod told;
-pub mod value;

@@ -1,19 +1,13 @@
 // What a call answered, in numbers, and the line that shows it.
 use audio::Level;
 use base_floats::pattern::bits_of;
-use irq::VrcIrq;
 use script_lines::arguments::NONE;
+use script_lines::values;
 use text_output::ROOM;
+use text_output::forms::put_form;
+use text_output::forms::put_nth_form;
 use text_output::put;
-use text_output::put_byte;
-use text_output::put_decimal;
-use text_output::put_flag;
-use text_output::put_line_end;
-use text_output::put_small;
-use text_output::put_text;
-use text_output::put_word;
 use vrc6::board::Forecast;
-use vrc6_banking::banking::Banking;
 use vrc6_calls::Answer;
 
 // The last call's answer; 0 where it says nothing of it.
@@ -117,118 +111,67 @@ impl Told {
     // From `view-length` to `forecast`, by the place of its name.
     pub fn value(self, what: u32) -> u32 {
         match what {
-            25 => self.view_length,
-            26 => self.refusal as u32,
-            27 => self.byte as u32,
-            28 => self.ticks,
-            29 => self.first,
-            30 => self.last,
-            31 => self.interrupt,
-            32 => self.sounding,
-            33 => self.level,
-            34 => self.bits,
+            values::VIEW_LENGTH => self.view_length,
+            values::REFUSAL => self.refusal as u32,
+            values::BYTE => self.byte as u32,
+            values::TICKS => self.ticks,
+            values::FIRST_TICK => self.first,
+            values::LAST_TICK => self.last,
+            values::INTERRUPT => self.interrupt,
+            values::SOUNDING => self.sounding,
+            values::LEVEL => self.level,
+            values::LEVEL_BITS => self.bits,
             _ => self.forecast,
         }
     }
 }
 
-pub fn put_refused(out: &mut [u8; ROOM], len: usize, refusal: u8) -> usize {
-    let a = put_text(out, len, b"refused");
-    let b = put_small(out, a, refusal);
-    put_line_end(out, b)
-}
+// The forms of answers; a level has one for each name, and no forecast one of its own.
+const SILENT: usize = 6;
 
-// The letter of a call, by the place of its name.
-fn put_letter(out: &mut [u8; ROOM], len: usize, what: u8) -> usize {
+const NO_FORECAST: usize = 10;
+
+const CLOCKS: usize = 11;
+
+// Which form answers a call, by the place of its name.
+fn form_of(what: u8, told: Told) -> usize {
     match what / 2 {
-        0 => put(out, len, b'R'),
-        1 => put(out, len, b'W'),
-        2 => put(out, len, b'P'),
-        3 => put(out, len, b'Q'),
-        4 => put(out, len, b'V'),
-        5 => put(out, len, b'Z'),
-        6 => put(out, len, b'L'),
-        7 => put(out, len, b'F'),
-        _ => put(out, len, b'C'),
+        6 => SILENT + (told.level as usize + 2) % 3,
+        7 => {
+            if told.forecast == NONE {
+                return NO_FORECAST;
+            }
+            NO_FORECAST - 1
+        }
+        8 => CLOCKS,
+        _ => (what / 2) as usize,
     }
 }
 
-fn put_level(out: &mut [u8; ROOM], len: usize, bits: u32, level: u32) -> usize {
-    let a = put_word(out, len, bits);
-    match level {
-        1 => put_text(out, a, b" Silent"),
-        2 => put_text(out, a, b" Held"),
-        _ => put_text(out, a, b" Playing"),
-    }
-}
-
-fn put_forecast(out: &mut [u8; ROOM], len: usize, clocks: u32) -> usize {
-    if clocks == NONE {
-        return put_text(out, len, b" none");
-    }
-    put_decimal(out, len, clocks)
-}
-
-fn put_ticks(out: &mut [u8; ROOM], len: usize, told: Told, pending: bool) -> usize {
-    let a = put_decimal(out, len, told.ticks);
-    let b = put_decimal(out, a, told.first);
-    let c = put_decimal(out, b, told.last);
-    let d = put_flag(out, c, pending);
-    put_word(out, d, told.hash)
-}
-
-fn put_told(out: &mut [u8; ROOM], len: usize, what: u8, told: Told, pending: bool) -> usize {
+// The numbers of an answer; pending as it is behind the call.
+fn numbers_told(what: u8, told: Told, pending: u32) -> [u32; 5] {
     match what / 2 {
-        0 | 2 => put_byte(out, len, told.byte),
-        1 | 3 | 5 => len,
-        4 => put_word(out, len, told.view_hash),
-        6 => put_level(out, len, told.bits, told.level),
-        7 => put_forecast(out, len, told.forecast),
-        _ => put_ticks(out, len, told, pending),
+        4 => [told.view_hash, 0, 0, 0, 0],
+        6 => [told.bits, 0, 0, 0, 0],
+        7 => [told.forecast, 0, 0, 0, 0],
+        8 => [told.ticks, told.first, told.last, pending, told.hash],
+        _ => [told.byte as u32, 0, 0, 0, 0],
     }
 }
 
-// A call's answer, by the place of its name; pending as it is behind the call.
-pub fn put_answer(out: &mut [u8; ROOM], len: usize, what: u8, told: Told, pending: bool) -> usize {
+// A call's answer, by the place of its name.
+pub fn put_answer(out: &mut [u8; ROOM], len: usize, what: u8, told: Told, pending: u32) -> usize {
     if told.refusal != 0 {
-        return put_refused(out, len, told.refusal);
+        let refusal = [told.refusal as u32];
+        return put_form(out, len, b"refused %d\n", &refusal);
     }
-    let a = put_letter(out, len, what);
-    let b = put_told(out, a, what, told, pending);
-    put_line_end(out, b)
-}
-
-fn put_chr(out: &mut [u8; ROOM], len: usize, chr: [u8; 8]) -> usize {
-    let mut n = len;
-    let mut i: usize = 0;
-    while i < 8 {
-        n = put_small(out, n, chr[i]);
-        i += 1;
-    }
-    n
-}
-
-fn put_bank_registers(out: &mut [u8; ROOM], len: usize, banking: Banking) -> usize {
-    let prg = banking.prg_banks;
-    let chr = banking.chr;
-    let a = put_small(out, len, banking.banking_mode);
-    let b = put_small(out, a, prg[0]);
-    let c = put_small(out, b, prg[1]);
-    put_chr(out, c, chr)
-}
-
-fn put_irq_registers(out: &mut [u8; ROOM], len: usize, irq: VrcIrq) -> usize {
-    let a = put_small(out, len, irq.reload);
-    let b = put_small(out, a, irq.counter);
-    let c = put_flag(out, b, irq.enabled);
-    let d = put_flag(out, c, irq.irq_pending);
-    put_flag(out, d, irq.cycle_mode)
-}
-
-// The sixteen values of the Rust's `registers`.
-pub fn put_registers(out: &mut [u8; ROOM], len: usize, banking: Banking, irq: VrcIrq) -> usize {
-    let a = put(out, len, b'G');
-    let b = put_bank_registers(out, a, banking);
-    let c = put_irq_registers(out, b, irq);
-    put_line_end(out, c)
+    let numbers = numbers_told(what, told, pending);
+    let a = put_nth_form(
+        out,
+        len,
+        b"R %b|W|P %b|Q|V %w|Z|L %w Silent|L %w Held|L %w Playing|F %d|F none|C %d %d %d %d %w",
+        form_of(what, told),
+        &numbers,
+    );
+    put(out, a, b'\n')
 }

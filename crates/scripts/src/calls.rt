@@ -1,14 +1,89 @@
-// Calls of the board that a line makes, and what it sets.
+// What a line does to the board: it creates one, makes a call or sets a value. The bytes are those that are lent.
 use crate::clocks::clock_times;
-use crate::session::Session;
+use memory_layout::MemoryLayout;
+use script_lines::Line;
+use script_lines::call_of;
 use script_lines::fnv::FNV_START;
 use script_lines::fnv::fnv;
-use script_state::hash::board_hash;
-use script_state::poke::board_with;
+use script_lines::kinds;
+use script_lines::values;
+use script_state::board::board_of;
+use script_state::numbers::COUNT;
+use script_state::numbers::numbers_of;
+use script_state::places::with_number;
 use script_state::told::Told;
 use vrc6::Board;
+use vrc6_banking::banking::Mirroring;
+use vrc6_banking::banking::Revision;
+use vrc6_banking::banking::Settings;
 use vrc6_calls::Call;
 use vrc6_calls::step;
+
+// The board behind a line, and what the last call answered.
+pub struct Played {
+    pub numbers: [u32; COUNT],
+    pub told: Told,
+}
+
+fn leaving(board: Board, told: Told) -> Played {
+    let numbers = numbers_of(board);
+    Played { numbers, told }
+}
+
+fn mirroring_of(n: u32) -> Mirroring {
+    match n {
+        0 => Mirroring::Vertical,
+        1 => Mirroring::Horizontal,
+        2 => Mirroring::SingleScreenA,
+        3 => Mirroring::SingleScreenB,
+        _ => Mirroring::FourScreen,
+    }
+}
+
+fn revision_of(n: u32) -> Revision {
+    if n == 0 {
+        return Revision::A;
+    }
+    Revision::B
+}
+
+// Layout S: PRG and CHR ROM 131,072 each, PRG RAM 8,192, CIRAM 2,048.
+fn layout_s() -> MemoryLayout {
+    MemoryLayout {
+        prg_rom: 131072,
+        chr: 131072,
+        chr_writable: false,
+        prg_ram: 8192,
+        ciram: 2048,
+    }
+}
+
+// The layout of a line that creates a board.
+pub fn layout_of(line: Line) -> MemoryLayout {
+    if line.what == kinds::LAYOUT_S {
+        return layout_s();
+    }
+    MemoryLayout {
+        prg_rom: line.a,
+        chr: line.b,
+        chr_writable: line.c == 1,
+        prg_ram: line.d,
+        ciram: line.e,
+    }
+}
+
+// The settings of such a line, which stand behind its layout.
+fn settings_of(line: Line) -> Settings {
+    if line.what == kinds::LAYOUT_S {
+        return Settings::new(mirroring_of(line.a), revision_of(line.b));
+    }
+    Settings::new(mirroring_of(line.f), revision_of(line.g))
+}
+
+fn create(fixed: &[u8], changing: &[u8], line: Line) -> Played {
+    let created = Board::create(layout_of(line), settings_of(line), fixed, changing);
+    leaving(created.board, Told::number(created.refusal))
+}
 
 // What a page view shows: its length and its hash.
 fn with_view(mut told: Told, addr: u16, view: &[u8]) -> Told {
@@ -32,86 +107,51 @@ fn told_of<'a>(told: Told, board: Board, fixed: &'a [u8], changing: &'a [u8], ca
     }
 }
 
-pub fn play(session: Session, fixed: &[u8], changing: &mut [u8], call: Call) -> Session {
-    let n = session.fixed;
-    let m = session.changing;
-    if n <= fixed.len() {
-        if m <= changing.len() {
-            let stepped = step(session.board, &fixed[0..n], &mut changing[0..m], call);
-            let board = stepped.board;
-            let answer = stepped.answer;
-            let told = told_of(Told::of(answer), board, &fixed[0..n], &changing[0..m], call);
-            let mut next = session;
-            next.board = board;
-            next.told = told;
-            return next;
-        }
-    }
-    session
+fn play(board: Board, fixed: &[u8], changing: &mut [u8], call: Call) -> Played {
+    let stepped = step(board, fixed, changing, call);
+    let next = stepped.board;
+    let answer = stepped.answer;
+    let told = told_of(Told::of(answer), next, fixed, changing, call);
+    leaving(next, told)
 }
 
-pub fn play_clocks(session: Session, n: u32) -> Session {
-    let clocks = clock_times(session.board, n);
-    let board = clocks.board;
-    let told = clocks.told;
-    let mut next = session;
-    next.board = board;
-    next.told = told;
-    next
+fn play_clocks(board: Board, n: u32) -> Played {
+    let clocks = clock_times(board, n);
+    leaving(clocks.board, clocks.told)
 }
 
-// The hash of the lent bytes of a buffer.
-pub fn lent_hash(bytes: &[u8], lent: usize) -> u32 {
-    if lent <= bytes.len() {
-        return fnv(FNV_START, &bytes[0..lent]);
-    }
-    0
+// Sets a value; the board takes of a number what its field holds.
+fn poke(numbers: [u32; COUNT], told: Told, line: Line) -> Played {
+    let poked = with_number(numbers, line.a, line.b, line.c);
+    leaving(board_of(poked), told)
 }
 
-// The hashes that `untouched` and `kept` compare with.
-pub fn marked(mut session: Session, changing: &[u8]) -> Session {
-    session.board_mark = board_hash(session.board);
-    session.changing_mark = lent_hash(changing, session.changing);
-    session
+// Whether a line sets a value of the board, and not a byte.
+fn pokes(line: Line) -> bool {
+    (line.what == kinds::POKE) & (line.a != values::FIXED) & (line.a != values::CHANGING)
 }
 
-// A length that a buffer has, or the one that was lent before.
-fn length_of(bytes: &[u8], length: u32, before: usize) -> usize {
-    let n = length as usize;
-    if n <= bytes.len() {
-        return n;
-    }
-    before
-}
-
-// Lends so many bytes of a buffer, if it has them: 0 is the fixed one.
-pub fn lend(
-    mut session: Session,
+// The board behind a line: created, after a call, with another value, or as it was.
+pub fn play_on(
+    numbers: [u32; COUNT],
+    told: Told,
     fixed: &[u8],
-    changing: &[u8],
-    buffer: u32,
-    length: u32,
-) -> Session {
-    if buffer == 0 {
-        session.fixed = length_of(fixed, length, session.fixed);
-        return session;
+    changing: &mut [u8],
+    line: Line,
+) -> Played {
+    let what = line.what;
+    if what < kinds::CLOCK {
+        let call = call_of(what, line.a, line.b);
+        return play(board_of(numbers), fixed, changing, call);
     }
-    session.changing = length_of(changing, length, session.changing);
-    session
-}
-
-// Puts a byte into a buffer, if it reaches so far.
-pub fn poke_byte(bytes: &mut [u8], at: u32, number: u32) {
-    let i = at as usize;
-    if i < bytes.len() {
-        bytes[i] = (number % 256) as u8;
+    if what < kinds::FILLED {
+        return play_clocks(board_of(numbers), line.a);
     }
-}
-
-// Puts a value into the board, by the place of its name.
-pub fn poke(session: Session, what: u32, at: u32, number: u32) -> Session {
-    let board = board_with(session.board, what, at, number);
-    let mut next = session;
-    next.board = board;
-    next
+    if what <= kinds::CREATE {
+        return create(fixed, changing, line);
+    }
+    if pokes(line) {
+        return poke(numbers, told, line);
+    }
+    Played { numbers, told }
 }

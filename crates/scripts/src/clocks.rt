@@ -3,8 +3,8 @@ use audio::Audio;
 use base_floats::pattern::bits_of;
 use script_lines::fnv::FNV_START;
 use script_lines::fnv::fnv_word;
+use script_state::numbers::flag;
 use script_state::told::Told;
-use script_state::value::flag;
 use vrc6::Board;
 
 // The board after clocks, and what they told.

@@ -1,13 +1,17 @@
 // Plays the scripts that its arguments name on the board (oracle/FORMAT.md), and prints a row for each expectation. Behind the argument
 // --answers an answer is printed for each call, as the Rust's driver does, and behind --full a dump after it.
+mod buffers;
 mod calls;
 mod clocks;
-mod creation;
 mod lines;
+mod reader;
 mod rows;
 mod run;
 mod session;
+mod showing;
 
+use crate::buffers::CHANGING;
+use crate::buffers::FIXED;
 use crate::run::run;
 use libc::STDOUT_FILENO;
 use text_words::names::place_in;
@@ -20,8 +24,8 @@ struct Options {
 
 // The buffers have the largest sizes that a layout can ask: a board uses their first bytes.
 fn play(fd: i32, name: &[u8], options: Options) {
-    let mut fixed = [0u8; 525312];
-    let mut changing = [0u8; 274432];
+    let mut fixed = [0u8; FIXED];
+    let mut changing = [0u8; CHANGING];
     let mut input = [0u8; 65536];
     let mut out = [0u8; 65536];
     run(

@@ -1,13 +1,18 @@
 // What is expected, and what there is.
-use crate::calls::lent_hash;
+use crate::buffers::lent_hash;
+use crate::buffers::within;
+use crate::session::Lent;
 use crate::session::Session;
 use script_lines::arguments::NONE;
-use script_state::hash::board_hash;
-use script_state::value::board_value;
-use script_state::value::flag;
+use script_lines::values;
+use script_state::board::board_of;
+use script_state::numbers::flag;
+use script_state::places::number;
+use script_state::places::same;
+use script_state::told::Told;
 use text_output::ROOM;
+use text_output::forms::put_nth_form;
 use text_output::put;
-use text_output::put_number;
 use text_output::put_text;
 use text_words::next_word;
 use vrc6::Board;
@@ -16,102 +21,99 @@ fn wide(byte: u8) -> u32 {
     byte as u32
 }
 
-// A byte of a buffer, 1,000 behind its end.
-fn byte_at(bytes: &[u8], at: u32) -> u32 {
+// A byte of a buffer, another number behind its end.
+fn byte_at(bytes: &[u8], at: u32, behind: u32) -> u32 {
     let i = at as usize;
     if i < bytes.len() {
         return wide(bytes[i]);
     }
-    1000
+    behind
 }
 
-// A byte of the lent part of a buffer.
+// A byte of the lent part of a buffer, 1,000 behind its end.
 fn lent_byte(bytes: &[u8], lent: usize, at: u32) -> u32 {
-    if lent <= bytes.len() {
-        return byte_at(&bytes[0..lent], at);
-    }
-    1000
-}
-
-// A byte of a page view, 0 behind its end.
-fn byte_of_view(view: &[u8], i: u32) -> u32 {
-    let byte = byte_at(view, i);
-    if byte == 1000 {
-        return 0;
-    }
-    byte
+    let n = within(lent, bytes);
+    byte_at(&bytes[0..n], at, 1000)
 }
 
 fn view_byte<'a>(board: Board, fixed: &'a [u8], changing: &'a [u8], addr: u16, i: u32) -> u32 {
-    byte_of_view(board.page_view(fixed, changing, addr), i)
+    byte_at(board.page_view(fixed, changing, addr), i, 0)
 }
 
-fn last_view_byte<'a>(session: Session, fixed: &'a [u8], changing: &'a [u8], i: u32) -> u32 {
-    let n = session.fixed;
-    let m = session.changing;
-    let told = session.told;
+// A byte of the last page view, 0 behind its end.
+fn last_view_byte<'a>(
+    board: Board,
+    told: Told,
+    lent: Lent,
+    fixed: &'a [u8],
+    changing: &'a [u8],
+    i: u32,
+) -> u32 {
     if told.view_length == 0 {
         return 0;
     }
-    if n <= fixed.len() {
-        if m <= changing.len() {
-            let addr = told.view_at;
-            return view_byte(session.board, &fixed[0..n], &changing[0..m], addr, i);
-        }
-    }
-    0
+    let n = within(lent.fixed, fixed);
+    let m = within(lent.changing, changing);
+    view_byte(board, &fixed[0..n], &changing[0..m], told.view_at, i)
 }
 
-fn is_untouched(changing: &[u8], lent: usize, mark: u32) -> bool {
-    lent_hash(changing, lent) == mark
+fn is_untouched(session: Session, changing: &[u8]) -> bool {
+    let lent = session.lent;
+    lent_hash(changing, lent.changing) == session.changing_mark
 }
 
 fn is_kept(session: Session, changing: &[u8]) -> bool {
     let told = session.told;
-    let untouched = is_untouched(changing, session.changing, session.changing_mark);
-    let same = board_hash(session.board) == session.board_mark;
-    untouched & same & told.is_mute()
+    let numbers = session.numbers;
+    let mark = session.mark;
+    is_untouched(session, changing) & same(numbers, mark) & told.is_mute()
 }
 
 // A value of the board, from `entry` to `sum`, or of what the last call answered, by the place of its name.
 fn value_of(session: Session, what: u32, at: u32) -> u32 {
-    if what < 24 {
-        return board_value(session.board, what, at);
-    }
+    let numbers = session.numbers;
     let told = session.told;
+    if what <= values::SUM {
+        return number(numbers, what, at);
+    }
     told.value(what)
 }
 
 // What there is of a name's place.
 fn found<'a>(session: Session, fixed: &'a [u8], changing: &'a [u8], what: u32, at: u32) -> u32 {
+    let numbers = session.numbers;
+    let lent = session.lent;
+    let told = session.told;
     match what {
-        4 => lent_byte(fixed, session.fixed, at),
-        5 => lent_byte(changing, session.changing, at),
-        24 => last_view_byte(session, fixed, changing, at),
-        36 => flag(is_untouched(changing, session.changing, session.changing_mark)),
-        37 => flag(is_kept(session, changing)),
+        values::FIXED => lent_byte(fixed, lent.fixed, at),
+        values::CHANGING => lent_byte(changing, lent.changing, at),
+        values::VIEW_BYTE => last_view_byte(board_of(numbers), told, lent, fixed, changing, at),
+        values::UNTOUCHED => flag(is_untouched(session, changing)),
+        values::KEPT => flag(is_kept(session, changing)),
         _ => value_of(session, what, at),
     }
 }
 
-fn put_level(out: &mut [u8; ROOM], len: usize, level: u32) -> usize {
-    match level {
-        1 => put_text(out, len, b"silent"),
-        2 => put_text(out, len, b"held"),
-        3 => put_text(out, len, b"playing"),
-        _ => put_number(out, len, level),
+// How a value is shown: as a number, or by the word for a level's name or for no forecast.
+fn form_of(what: u32, value: u32) -> usize {
+    if (what == values::LEVEL) & (value <= 3) {
+        return value as usize;
     }
+    if (what == values::FORECAST) & (value == NONE) {
+        return 4;
+    }
+    0
 }
 
-// A value as rows show it.
 fn put_value(out: &mut [u8; ROOM], len: usize, what: u32, value: u32) -> usize {
-    if what == 33 {
-        return put_level(out, len, value);
-    }
-    if (what == 35) & (value == NONE) {
-        return put_text(out, len, b"none");
-    }
-    put_number(out, len, value)
+    let numbers = [value];
+    put_nth_form(
+        out,
+        len,
+        b"%d|silent|held|playing|none",
+        form_of(what, value),
+        &numbers,
+    )
 }
 
 // A word of the line.
@@ -138,22 +140,28 @@ fn put_name(out: &mut [u8; ROOM], len: usize, line: &[u8]) -> usize {
     put_word_of(out, b, line, place.from, place.to)
 }
 
-fn put_verdict(out: &mut [u8; ROOM], len: usize, right: bool) -> usize {
-    if right {
-        return put_text(out, len, b"ok    ");
-    }
-    put_text(out, len, b"WRONG ")
+// Whether a row is right; a wrong one is found by the number of its line.
+fn put_verdict(out: &mut [u8; ROOM], len: usize, right: bool, number: u32) -> usize {
+    let numbers = [number];
+    put_nth_form(
+        out,
+        len,
+        b"ok    |WRONG line %d, ",
+        !right as usize,
+        &numbers,
+    )
 }
 
 fn put_row(
     out: &mut [u8; ROOM],
     len: usize,
     line: &[u8],
+    number: u32,
     what: u32,
     expected: u32,
     got: u32,
 ) -> usize {
-    let a = put_verdict(out, len, expected == got);
+    let a = put_verdict(out, len, expected == got, number);
     let b = put_name(out, a, line);
     let c = put_text(out, b, b": expected ");
     let d = put_value(out, c, what, expected);
@@ -174,7 +182,7 @@ pub fn expect<'a>(
     expected: u32,
 ) -> Session {
     let got = found(session, fixed, changing, what, at);
-    let len = put_row(out, session.len, line, what, expected, got);
+    let len = put_row(out, session.len, line, session.line, what, expected, got);
     let next = session.holding(len);
     next.counted(expected == got)
 }

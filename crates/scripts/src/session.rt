@@ -1,30 +1,48 @@
 // What is kept from line to line of a script.
 use memory_layout::MemoryLayout;
+use script_state::numbers::COUNT;
 use script_state::told::Told;
-use vrc6::Board;
-use vrc6_banking::banking::Mirroring;
-use vrc6_banking::banking::Revision;
-use vrc6_banking::banking::Settings;
 
-// Wrong in a line beside what its words can be.
-pub const NO_BOARD: u8 = 20;
+// Wrong in a line beside what its words can be, on from the numbers of script_lines.
+pub const NO_BOARD: u8 = 8;
 
-pub const TOO_LONG: u8 = 21;
+pub const TOO_LONG: u8 = 9;
 
-pub const NO_VALUE: u8 = 22;
+pub const NO_VALUE: u8 = 10;
+
+// How many bytes of the two buffers are lent.
+pub struct Lent {
+    pub fixed: usize,
+    pub changing: usize,
+}
+
+impl Lent {
+    // The lengths of a layout's buffers. One above its limits gets no bytes, and create refuses it.
+    pub fn of(layout: MemoryLayout) -> Lent {
+        if layout.within_limits() {
+            return Lent {
+                fixed: layout.fixed_length() as usize,
+                changing: layout.changing_length() as usize,
+            };
+        }
+        Lent {
+            fixed: 0,
+            changing: 0,
+        }
+    }
+}
 
 pub struct Session {
-    pub board: Board,
+    // The board, and the board behind the last line that set something.
+    pub numbers: [u32; COUNT],
+    pub mark: [u32; COUNT],
+    // The hash of the changing buffer behind that line.
+    pub changing_mark: u32,
     // What the last call answered.
     pub told: Told,
     // Whether a board was created.
     pub made: bool,
-    // How many bytes of the two buffers are lent.
-    pub fixed: usize,
-    pub changing: usize,
-    // The hashes of board and changing buffer behind the last line that set something.
-    pub board_mark: u32,
-    pub changing_mark: u32,
+    pub lent: Lent,
     // Whether answers are printed, and a dump behind each.
     pub answers: bool,
     pub full: bool,
@@ -36,39 +54,21 @@ pub struct Session {
     // The number of the line, from 1, and what is wrong with it.
     pub line: u32,
     pub wrong: u8,
-    // How many bytes of the input are played, how many of an unfinished line are held, and whether it is over.
-    pub used: usize,
-    pub held: usize,
-    pub over: bool,
-}
-
-// The board of a refused create.
-fn no_board() -> Board {
-    let none = [0u8; 1];
-    let layout = MemoryLayout {
-        prg_rom: 0,
-        chr: 0,
-        chr_writable: false,
-        prg_ram: 0,
-        ciram: 0,
-    };
-    let settings = Settings::new(Mirroring::Vertical, Revision::A);
-    let created = Board::create(layout, settings, &none, &none);
-    created.board
 }
 
 impl Session {
     // Before the first line.
     pub fn new(answers: bool, full: bool) -> Session {
-        let board = no_board();
         Session {
-            board,
+            numbers: [0; COUNT],
+            mark: [0; COUNT],
+            changing_mark: 0,
             told: Told::number(0),
             made: false,
-            fixed: 0,
-            changing: 0,
-            board_mark: 0,
-            changing_mark: 0,
+            lent: Lent {
+                fixed: 0,
+                changing: 0,
+            },
             answers,
             full,
             rows: 0,
@@ -76,9 +76,6 @@ impl Session {
             len: 0,
             line: 0,
             wrong: 0,
-            used: 0,
-            held: 0,
-            over: false,
         }
     }
 
@@ -94,6 +91,14 @@ impl Session {
 
     pub fn next_line(mut self) -> Session {
         self.line = std::num::wrapping_add_u32(self.line, 1);
+        self
+    }
+
+    // What the bytes of the changing buffer are compared with from here on, and the board as it is.
+    pub fn marked(mut self, changing_mark: u32) -> Session {
+        let numbers = self.numbers;
+        self.mark = numbers;
+        self.changing_mark = changing_mark;
         self
     }
 

@@ -1,5 +1,7 @@
 // Text into an output buffer, which is written out when it is full. Each function takes how many bytes the buffer holds,
 // and hands back how many it holds then.
+pub mod forms;
+
 use libc::STDOUT_FILENO;
 
 pub const ROOM: usize = 65536;
@@ -90,17 +92,6 @@ pub fn put_large(out: &mut [u8; ROOM], len: usize, n: u64) -> usize {
     put_nine(out, a, low)
 }
 
-// A blank and a decimal number.
-pub fn put_decimal(out: &mut [u8; ROOM], len: usize, n: u32) -> usize {
-    let l = put(out, len, b' ');
-    put_number(out, l, n)
-}
-
-// The same for a number of 8 bits.
-pub fn put_small(out: &mut [u8; ROOM], len: usize, n: u8) -> usize {
-    put_decimal(out, len, n as u32)
-}
-
 // The last hexadecimal digit of what a number begins with, and nothing where that is 0.
 fn put_hex_place(out: &mut [u8; ROOM], len: usize, begin: u32) -> usize {
     if begin == 0 {
@@ -109,10 +100,9 @@ fn put_hex_place(out: &mut [u8; ROOM], len: usize, begin: u32) -> usize {
     put(out, len, glyph(begin))
 }
 
-// A blank and a hexadecimal number.
-pub fn put_hex(out: &mut [u8; ROOM], len: usize, n: u32) -> usize {
-    let mut l = put(out, len, b' ');
-    l = put_hex_place(out, l, n / 0x1000_0000);
+// A hexadecimal number.
+pub fn put_hexadecimal(out: &mut [u8; ROOM], len: usize, n: u32) -> usize {
+    let mut l = put_hex_place(out, len, n / 0x1000_0000);
     l = put_hex_place(out, l, n / 0x100_0000);
     l = put_hex_place(out, l, n / 0x10_0000);
     l = put_hex_place(out, l, n / 0x1_0000);
@@ -122,35 +112,15 @@ pub fn put_hex(out: &mut [u8; ROOM], len: usize, n: u32) -> usize {
     put(out, l, glyph(n))
 }
 
-// A blank and two hexadecimal digits.
-pub fn put_byte(out: &mut [u8; ROOM], len: usize, n: u8) -> usize {
-    let a = put(out, len, b' ');
-    let b = put(out, a, glyph((n / 16) as u32));
-    put(out, b, glyph(n as u32))
-}
-
-// A blank and eight hexadecimal digits.
-pub fn put_word(out: &mut [u8; ROOM], len: usize, n: u32) -> usize {
-    let a = put(out, len, b' ');
-    let b = put(out, a, glyph(n / 0x1000_0000));
-    let c = put(out, b, glyph(n / 0x100_0000));
-    let d = put(out, c, glyph(n / 0x10_0000));
-    let e = put(out, d, glyph(n / 0x1_0000));
-    let f = put(out, e, glyph(n / 0x1000));
-    let g = put(out, f, glyph(n / 0x100));
-    let h = put(out, g, glyph(n / 0x10));
-    put(out, h, glyph(n))
-}
-
-// A blank and 1 or 0.
-pub fn put_flag(out: &mut [u8; ROOM], len: usize, flag: bool) -> usize {
-    let a = put(out, len, b' ');
-    if flag {
-        return put(out, a, b'1');
+// The first hexadecimal digits of the eight that a number has.
+pub fn put_digits(out: &mut [u8; ROOM], len: usize, n: u32, count: u32) -> usize {
+    let mut l = len;
+    let mut rest = n;
+    let mut left = count;
+    while left > 0 {
+        l = put(out, l, glyph(rest / 0x1000_0000));
+        rest = rest % 0x1000_0000 * 16;
+        left -= 1;
     }
-    put(out, a, b'0')
-}
-
-pub fn put_line_end(out: &mut [u8; ROOM], len: usize) -> usize {
-    put(out, len, b'\n')
+    l
 }

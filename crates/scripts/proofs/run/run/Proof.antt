@@ -4,21 +4,27 @@ use Rattle.scripts.proofs.run.run.Statement.{statement}
 use Rattle.scripts.proofs.run.run.Tie as tie
 
 abbrev Inv-loop : tie.InvT-loop
-Inv-loop fd name fixed₀ changing₀ input₀ out₀ answers full session₀ turns₀ fixed changing input out session turns =
+Inv-loop fd name fixed₀ changing₀ input₀ out₀ answers full session₀ reader₀ turns₀ fixed changing input out session reader turns =
     Unit {0}
 
 abbrev μ-loop : tie.MeasureT-loop
-μ-loop fd name fixed₀ changing₀ input₀ out₀ answers full session₀ turns₀ fixed changing input out session turns =
+μ-loop fd name fixed₀ changing₀ input₀ out₀ answers full session₀ reader₀ turns₀ fixed changing input out session reader turns =
     turns
 
 new-requires : tie.Need-new-requires Inv-loop μ-loop
 new-requires c κs = search needs
 
+new-requires-2 : tie.Need-new-requires-2 Inv-loop μ-loop
+new-requires-2 c κs = search needs
+
 loop-holds : tie.Need-loop-holds Inv-loop μ-loop
 loop-holds c = search needs
 
-turn-requires : tie.Need-turn-requires Inv-loop μ-loop
-turn-requires c κs = search needs
+sub-turns : tie.Need-sub-turns Inv-loop μ-loop
+sub-turns c = search needs
+
+next-line-requires : tie.Need-next-line-requires Inv-loop μ-loop
+next-line-requires c κs = search needs
 
 finish-requires : tie.Need-finish-requires Inv-loop μ-loop
 finish-requires c κs = search needs
@@ -26,8 +32,11 @@ finish-requires c κs = search needs
 returns : tie.Need-returns Inv-loop μ-loop
 returns c = search needs
 
-sub-turns : tie.Need-sub-turns Inv-loop μ-loop
-sub-turns c = search needs
+next-line-requires-2 : tie.Need-next-line-requires-2 Inv-loop μ-loop
+next-line-requires-2 c κs = search needs
+
+play-taken-requires : tie.Need-play-taken-requires Inv-loop μ-loop
+play-taken-requires c κs = search needs
 
 loop-less : tie.Need-loop-less Inv-loop μ-loop
 loop-less c = search needs
@@ -48,11 +57,14 @@ run-spec =
     Inv-loop
     μ-loop
     new-requires
+    new-requires-2
     loop-holds
-    turn-requires
+    sub-turns
+    next-line-requires
     finish-requires
     returns
-    sub-turns
+    next-line-requires-2
+    play-taken-requires
     loop-less
     loop-again
     finish-requires-2
