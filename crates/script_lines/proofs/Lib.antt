@@ -1,4 +1,3 @@
-pub mod Filling
 pub mod Followed
 pub mod Rows
 pub mod Lining

@@ -8,19 +8,14 @@ use lib.ListN.{drop, getD, take}
 use Rattle.text_words.specs.Names.{byteOfNth, placeIn}
 use Rattle.text_words.specs.Places.{Found}
 use Rattle.text_words.specs.Words.{fromWord, wordOf}
-use Rattle.vrc6_calls.specs.declared.Call.{Call}
 use Rattle.script_lines.specs.declared.line.Line.{Line}
-use Rattle.script_lines.specs.Lines.{argumentBy, callBy, letterAt, lineAlone, lineBy, lineCount, lineForms, lineFrom, lineNames, lineOf, valueForms}
+use Rattle.script_lines.specs.Lines.{argumentBy, letterAt, lineAlone, lineBy, lineCount, lineForms, lineFrom, lineNames, lineOf, valueForms}
 use Rattle.script_lines.specs.Readings.{Reading, right}
 use Rattle.script_lines.proofs.Followed.{empty, there, letter}
 
 -- the argument of a known letter
 pub by-letter : (k : ℕ) (r : Reading) {x : Reading} {l : ℕ} → l ≡ k → x ≡ argumentBy k r → x ≡ argumentBy l r
 by-letter k r {x} e h = subst (λ (l : ℕ). x ≡ argumentBy l r) (sym e) h
-
--- the call of a known pair
-pub by-pair : (k a b : ℕ) {x : Call} {p : ℕ} → p ≡ k → x ≡ callBy k a b → x ≡ callBy p a b
-by-pair k a b {x} e h = subst (λ (p : ℕ). x ≡ callBy p a b) (sym e) h
 
 -- a letter of a value's form, or of the line's
 module _ (what first i : ℕ) where

@@ -2,17 +2,14 @@
 use mathlib.Core.Path.{refl}
 use Rattle.text_words.specs.Names.{nthWord, placeIn}
 use Rattle.text_words.specs.Numbers.{numberOf}
-use Rattle.script_lines.specs.Lines.{argumentBy, callBy, letterAt, lineBy, lineOf}
+use Rattle.script_lines.specs.Lines.{argumentBy, letterAt, lineBy, lineOf}
 use Rattle.script_lines.specs.Readings.{nameAfter, numberAfter, valueAfter, wrongAfter}
 use Rattle.script_lines.specs.Laws.{LineExamples}
 
 pub examples : LineExamples
-unfolding argumentBy callBy letterAt lineBy lineOf nameAfter nthWord numberAfter numberOf placeIn valueAfter wrongAfter
+unfolding argumentBy letterAt lineBy lineOf nameAfter nthWord numberAfter numberOf placeIn valueAfter wrongAfter
 examples =
     record {
-      hash-a = refl;
-      hash-foobar = refl;
-      fill-1024 = refl;
       read = refl;
       write = refl;
       hard = refl;
@@ -38,6 +35,4 @@ examples =
       no-choice = refl;
       no-name = refl;
       no-place = refl;
-      call-write = refl;
-      call-hard = refl;
     }

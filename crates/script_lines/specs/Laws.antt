@@ -1,20 +1,11 @@
 -- Examples of what the definitions give. Assumes nothing.
 use mathlib.Core.Path.{_≡_}
-use mathlib.Core.List.{[], _∷_}
 use Rattle.text_words.specs.Names.{codes}
-use Rattle.vrc6_calls.specs.declared.Call.the-variants.{CpuWrite, HardReset}
-use Rattle.script_lines.specs.Fill.{fillByte}
-use Rattle.script_lines.specs.Fnv.{fnv1a}
-use Rattle.script_lines.specs.Lines.{callOf, lineAlone, lineOf}
+use Rattle.script_lines.specs.Lines.{lineAlone, lineOf}
 use Rattle.script_lines.specs.Readings.{largest}
 
--- hashes, a filled byte, lines, and what is wrong with lines
+-- lines, and what is wrong with lines
 pub record LineExamples : Type 0 where
-  -- FNV's own test vectors $E40C292C and $BF9CF968
-  pub hash-a : fnv1a 2_166_136_261 (codes "a") ≡ 3_826_002_220
-  pub hash-foobar : fnv1a 2_166_136_261 (codes "foobar") ≡ 3_214_735_720
-  -- the fill at offset 1,024 by the seed $1234 is $6D
-  pub fill-1024 : fillByte 1024 4_660 ≡ 109
   -- lines and their arguments
   -- an address
   pub read : lineOf (codes "R 8000") ≡ record { what = 0; a = 32_768; b = 0; c = 0; d = 0; e = 0; f = 0; g = 0; h = 0; wrong = 0 }
@@ -44,6 +35,3 @@ pub record LineExamples : Type 0 where
   pub no-choice : lineOf (codes "Z x") .wrong ≡ 7
   pub no-name : lineOf (codes "expect pitch 1") .wrong ≡ 7
   pub no-place : lineOf (codes "poke chr mode 1") .wrong ≡ 4
-  -- the calls of lines
-  pub call-write : callOf 3 45_059 160 ≡ CpuWrite 45_059 160
-  pub call-hard : callOf 10 1 0 ≡ HardReset

@@ -1,5 +1,3 @@
-pub mod Fill
-pub mod Fnv
 pub mod Following
 pub mod Laws
 pub mod Lines

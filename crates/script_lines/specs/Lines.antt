@@ -1,11 +1,9 @@
 -- What a line of a script says: its name by its place, its arguments by the form that the name has (oracle/FORMAT.md). Assumes nothing.
 use mathlib.Core.Bool.{cond}
 use mathlib.Core.List.{List}
-use Prim.Native.Nat.{ℕ, _-_, _/_, _%_}
+use Prim.Native.Nat.{ℕ, _-_}
 use lib.Dec.{eqb, ltb}
 use lib.ListN.{length, getD}
-use Rattle.vrc6_calls.specs.declared.Call.{Call}
-use Rattle.vrc6_calls.specs.declared.Call.the-variants.{CpuRead, CpuWrite, PictureRead, PictureWrite, SoftReset, HardReset, ReadLevel, PageView, ReadForecast}
 use Rattle.text_words.specs.Names.{byteOfNth, codes, placeIn}
 use Rattle.text_words.specs.Words.{fromWord, pastWord, wordOf}
 use Rattle.script_lines.specs.declared.line.Line.{Line}
@@ -117,20 +115,3 @@ lineWith word rest =
 -- what a line says
 unfoldable pub lineOf : List ℕ → Line
 lineOf line = lineWith (wordOf (fromWord line)) (pastWord (fromWord line))
-
--- ---- calls
--- the call of a pair of names, a letter and its word, with the line's first two arguments
-unfoldable pub callBy : (pair a b : ℕ) → Call
-callBy pair a b =
-    cond (eqb pair 0) (CpuRead (a % 65_536))
-    (cond (eqb pair 1) (CpuWrite (a % 65_536) (b % 256))
-    (cond (eqb pair 2) (PictureRead (a % 65_536))
-    (cond (eqb pair 3) (PictureWrite (a % 65_536) (b % 256))
-    (cond (eqb pair 4) (PageView (a % 65_536))
-    (cond (eqb pair 5) (cond (eqb (a % 2) 0) SoftReset HardReset)
-    (cond (eqb pair 6) ReadLevel
-    ReadForecast))))))
-
--- the call of a line
-abbrev pub callOf : (what a b : ℕ) → Call
-callOf what a b = callBy (what / 2) a b

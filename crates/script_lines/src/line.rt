@@ -13,13 +13,12 @@ use crate::arguments::wrong_after;
 use text_words::names::byte_of_nth;
 use text_words::names::place_in;
 use text_words::next_word;
-use vrc6_calls::Call;
 ghost use mathlib.Core.Path.{_≡_};
 ghost use Prim.Native.Nat.{_<_};
 ghost use lib.ListN.{drop};
 ghost use Rattle.text_words.specs.Names.{byteOfNth};
 ghost use Rattle.script_lines.specs.Readings.{readingIn};
-ghost use Rattle.script_lines.specs.Lines.{argumentBy, callOf, letterAt, lineAlone, lineBy, lineForms, lineOf, valueForms};
+ghost use Rattle.script_lines.specs.Lines.{argumentBy, letterAt, lineAlone, lineBy, lineForms, lineOf, valueForms};
 
 // The place of a line's name, its arguments, and what is wrong with it.
 pub struct Line {
@@ -166,27 +165,4 @@ pub fn parse(line: &[u8]) -> Line
         return line_by(line, what, to);
     }
     alone(UNKNOWN_LINE)
-}
-
-// The call of a line.
-pub fn call_of(what: u8, a: u32, b: u32) -> Call
-    ensures { λ r. ⌜ r ≡ callOf what a b ⌝ }
-{
-    let addr = (a % 65536) as u16;
-    let val = (b % 256) as u8;
-    match what / 2 {
-        0 => Call::CpuRead(addr),
-        1 => Call::CpuWrite(addr, val),
-        2 => Call::PictureRead(addr),
-        3 => Call::PictureWrite(addr, val),
-        4 => Call::PageView(addr),
-        5 => {
-            if a % 2 == 0 {
-                return Call::SoftReset;
-            }
-            Call::HardReset
-        }
-        6 => Call::ReadLevel,
-        _ => Call::ReadForecast,
-    }
 }

@@ -1,10 +1,10 @@
 // The two buffers: how many of their bytes are lent, and what lines put into them.
 use crate::calls::layout_of;
 use crate::session::Lent;
+use script_bytes::fill::fill;
+use script_bytes::fnv::FNV_START;
+use script_bytes::fnv::fnv;
 use script_lines::Line;
-use script_lines::fill::fill;
-use script_lines::fnv::FNV_START;
-use script_lines::fnv::fnv;
 use script_lines::kinds;
 use script_lines::values;
 ghost use Prim.Native.Nat.{_≤_};

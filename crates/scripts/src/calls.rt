@@ -1,10 +1,10 @@
 // What a line does to the board: it creates one, makes a call or sets a value. The bytes are those that are lent.
 use crate::clocks::clock_times;
 use memory_layout::MemoryLayout;
+use script_bytes::fnv::FNV_START;
+use script_bytes::fnv::fnv;
+use script_calls::call_of;
 use script_lines::Line;
-use script_lines::call_of;
-use script_lines::fnv::FNV_START;
-use script_lines::fnv::fnv;
 use script_lines::kinds;
 use script_lines::values;
 use script_state::board::board_of;

@@ -1,8 +1,8 @@
 // Many clocks at once.
 use audio::Audio;
 use base_floats::pattern::bits_of;
-use script_lines::fnv::FNV_START;
-use script_lines::fnv::fnv_word;
+use script_bytes::fnv::FNV_START;
+use script_bytes::fnv::fnv_word;
 use script_state::numbers::flag;
 use script_state::told::Told;
 use vrc6::Board;

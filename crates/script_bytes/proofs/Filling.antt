@@ -9,7 +9,7 @@ use lib.Seq.{sets, sets-eq}
 use Rattle.base_shared.specs.Lists.{tabulate}
 use Rattle.base_shared.proofs.Runs.{Filled}
 use Rattle.base_shared.proofs.Runs as Runs
-use Rattle.script_lines.specs.Fill.{fillByte, filled}
+use Rattle.script_bytes.specs.Fill.{fillByte, filled}
 
 length-tabulate : {A : Type 0} (n : ℕ) (f : ℕ → A) → length (tabulate n f) ≡ n
 length-tabulate zero f = refl

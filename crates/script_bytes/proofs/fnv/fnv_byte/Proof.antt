@@ -3,8 +3,8 @@ use Prim.Native.Nat.{_^_, _<_}
 use lib.Bits.{bitXor, xor-lt}
 use native.Mathlib.Omega.{arith}
 use borrow.Author.Needs.{needs}
-use Rattle.script_lines.proofs.fnv.fnv_byte.Statement.{statement}
-use Rattle.script_lines.proofs.fnv.fnv_byte.Tie as tie
+use Rattle.script_bytes.proofs.fnv.fnv_byte.Statement.{statement}
+use Rattle.script_bytes.proofs.fnv.fnv_byte.Tie as tie
 
 low : (c : tie.Start) → bitXor (c .args .hash) (c .args .byte) < 2 ^ 32
 low c = xor-lt 32 (c .args .hash) (c .args .byte) (c .fits .hash .fits) (omega (arith, c .fits .byte))

@@ -1,7 +1,7 @@
 // The bytes that fill the buffers before a board is created.
 ghost use mathlib.Core.Path.{_≡_};
 ghost use lib.ListN.{length};
-ghost use Rattle.script_lines.specs.Fill.{fillByte, filled};
+ghost use Rattle.script_bytes.specs.Fill.{fillByte, filled};
 
 // The byte at an offset that is counted from the fixed buffer on into the changing one.
 pub fn fill_byte(offset: u32, seed: u32) -> u8

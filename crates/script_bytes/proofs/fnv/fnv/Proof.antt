@@ -8,9 +8,9 @@ use borrow.Author.Needs.{needs}
 use denote.Ref.{now}
 use lib.ListN.{length, take, getD}
 use lib.Seq.{take-suc, take-all}
-use Rattle.script_lines.specs.Fnv.{fnv1a, fnvByte}
-use Rattle.script_lines.proofs.fnv.fnv.Statement.{statement}
-use Rattle.script_lines.proofs.fnv.fnv.Tie as tie
+use Rattle.script_bytes.specs.Fnv.{fnv1a, fnvByte}
+use Rattle.script_bytes.proofs.fnv.fnv.Statement.{statement}
+use Rattle.script_bytes.proofs.fnv.fnv.Tie as tie
 
 abbrev Inv-loop : tie.InvT-loop
 Inv-loop hash bytes h₀ i₀ h i = (i ≤ length bytes) × (h ≡ fnv1a hash (take i bytes))

@@ -1,6 +1,6 @@
 // FNV-1a with 32 bits, the hash by which answers show many bytes.
 ghost use mathlib.Core.Path.{_≡_};
-ghost use Rattle.script_lines.specs.Fnv.{fnv1a, fnvByte, littleEndian};
+ghost use Rattle.script_bytes.specs.Fnv.{fnv1a, fnvByte, littleEndian};
 
 // The hash of no bytes.
 pub const FNV_START: u32 = 0x811C_9DC5;

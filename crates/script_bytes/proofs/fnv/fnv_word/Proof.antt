@@ -1,7 +1,7 @@
 -- `fnv_word` meets its contract. Assumes nothing.
 use borrow.Author.Needs.{needs}
-use Rattle.script_lines.proofs.fnv.fnv_word.Statement.{statement}
-use Rattle.script_lines.proofs.fnv.fnv_word.Tie as tie
+use Rattle.script_bytes.proofs.fnv.fnv_word.Statement.{statement}
+use Rattle.script_bytes.proofs.fnv.fnv_word.Tie as tie
 
 cast-fnv-byte : tie.Need-cast-fnv-byte
 cast-fnv-byte c = search needs

@@ -2,9 +2,9 @@
 use Prim.Native.Nat.{_-_}
 use borrow.Author.Needs.{needs}
 use lib.ListN.{length}
-use Rattle.script_lines.proofs.Filling.{Filling, none, more, done}
-use Rattle.script_lines.proofs.fill.fill.Statement.{statement}
-use Rattle.script_lines.proofs.fill.fill.Tie as tie
+use Rattle.script_bytes.proofs.Filling.{Filling, none, more, done}
+use Rattle.script_bytes.proofs.fill.fill.Statement.{statement}
+use Rattle.script_bytes.proofs.fill.fill.Tie as tie
 
 abbrev Inv-loop : tie.InvT-loop
 Inv-loop part₀ first seed at₀ i₀ part at i = Filling first seed part₀ part i at

@@ -2,11 +2,11 @@
 use mathlib.Core.Path.{refl}
 use borrow.Author.Tests.{eq-eqb, ne-eqb}
 use Prim.Native.Nat.{_/_, _%_}
-use Rattle.script_lines.specs.Lines.{callBy}
-use Rattle.script_lines.proofs.Lining.{by-pair}
+use Rattle.script_calls.specs.Calls.{callBy}
+use Rattle.script_calls.proofs.Pairs.{by-pair}
 use borrow.Author.Needs.{needs}
-use Rattle.script_lines.proofs.line.call_of.Statement.{statement}
-use Rattle.script_lines.proofs.line.call_of.Tie as tie
+use Rattle.script_calls.proofs.call_of.Statement.{statement}
+use Rattle.script_calls.proofs.call_of.Tie as tie
 
 cast-addr : tie.Need-cast-addr
 cast-addr c = search needs
