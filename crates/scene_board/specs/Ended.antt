@@ -11,7 +11,7 @@ use Rattle.host_creation.specs.declared.NumberedSettings.{NumberedSettings}
 use Rattle.host_creation.specs.Numbers.{createdBy}
 use Rattle.scene_board.specs.declared.ended.Ended.{Ended}
 use Rattle.scene_board.specs.Played.{callsOf}
-use Rattle.scene_board.specs.Shown.{bankShown}
+use Rattle.scene_banks.specs.Shown.{bankShown}
 
 -- the bank that slot i shows
 abbrev pub slotShown : MemoryLayout → List Page → (i : ℕ) → ℕ

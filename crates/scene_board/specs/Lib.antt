@@ -1,3 +1,2 @@
 pub mod Ended
 pub mod Played
-pub mod Shown

@@ -1,11 +1,11 @@
 // A scene's writes and menu, played on a board of its own: the interrupt counter, and the banks that the eight slots show.
 use crate::play;
-use crate::shown::bank_shown;
 use host_creation::NumberedSettings;
 use host_creation::create_numbered;
 use irq::VrcIrq;
 use memory_layout::MemoryLayout;
 use memory_pages::Page;
+use scene_banks::bank_shown;
 ghost use mathlib.Core.Path.{_≡_};
 ghost use Rattle.scene_board.specs.Ended.{doneState, endOf, slotsShown};
 

@@ -1,6 +1,5 @@
-// The steps of a sheet, played on a board, and the bank that a slot of it shows.
+// The steps of a sheet, played on a board.
 pub mod ended;
-pub mod shown;
 
 use scene_steps::Step;
 use scene_steps::step::step_coded;

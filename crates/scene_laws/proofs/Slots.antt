@@ -16,7 +16,7 @@ use Rattle.memory_layout.proofs.Limited.{limits}
 use Rattle.memory_rule.specs.Rule.{base, bankCount}
 use Rattle.memory_rule.proofs.Shown.{ends}
 use Rattle.vrc6_tables.specs.Tables.{onePage}
-use Rattle.scene_board.specs.Shown.{bankAt, bankShown, noBank}
+use Rattle.scene_banks.specs.Shown.{bankAt, bankShown, noBank}
 use Rattle.scene_laws.specs.Banks.{BankLaw}
 
 -- an offset so many banks behind the start of CHR

@@ -7,7 +7,7 @@ use Rattle.memory_layout.specs.declared.regions.Src.the-variants.{Chr}
 use Rattle.memory_layout.specs.Layout.{region, withinLimits}
 use Rattle.memory_rule.specs.Rule.{bankCount}
 use Rattle.vrc6_tables.specs.Tables.{onePage}
-use Rattle.scene_board.specs.Shown.{bankShown}
+use Rattle.scene_banks.specs.Shown.{bankShown}
 
 -- of a layout within its limits that has CHR, an entry that a slot's window makes for bank v shows as bank v modulo the count of banks;
 -- every slot's entry is such a one, by vrc6_tables' `pictureEntries` (01, Paging 2)

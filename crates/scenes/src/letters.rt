@@ -1,5 +1,5 @@
 // The banks that slots show, and those that were asked.
-use scene_board::shown::NO_BANK;
+use scene_banks::NO_BANK;
 use scene_steps::letters::ANY_BANK;
 use scene_steps::letters::slot_right;
 use scene_steps::letters::slots_right;

@@ -1,7 +1,7 @@
 -- `bank_at` meets its contract. Assumes nothing.
 use borrow.Author.Tests.{lt-ltb, le-ltb}
-use Rattle.scene_board.proofs.shown.bank_at.Statement.{statement}
-use Rattle.scene_board.proofs.shown.bank_at.Tie as tie
+use Rattle.scene_banks.proofs.bank_at.Statement.{statement}
+use Rattle.scene_banks.proofs.bank_at.Tie as tie
 
 returns : tie.Need-returns
 returns c = rw (lt-ltb _ _ (c .if1 .taken))

@@ -4,7 +4,7 @@ use memory_layout::Region;
 use memory_layout::Src;
 use memory_pages::Page;
 ghost use mathlib.Core.Path.{_≡_};
-ghost use Rattle.scene_board.specs.Shown.{bankAt, bankShown};
+ghost use Rattle.scene_banks.specs.Shown.{bankAt, bankShown};
 
 // Shown where a slot shows no bank of CHR.
 pub const NO_BANK: u32 = 0xFFFF_FFFF;

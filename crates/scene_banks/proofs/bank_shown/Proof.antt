@@ -7,10 +7,10 @@ use Rattle.memory_layout.specs.declared.regions.Region.{Region}
 use Rattle.memory_layout.specs.declared.regions.Src.the-variants.{Chr}
 use Rattle.memory_layout.specs.Layout.{region}
 use Rattle.memory_layout.proofs.Limited.{limits}
-use Rattle.scene_board.specs.Shown.{bankAt, noBank}
+use Rattle.scene_banks.specs.Shown.{bankAt, noBank}
 use borrow.Author.Needs.{needs}
-use Rattle.scene_board.proofs.shown.bank_shown.Statement.{statement}
-use Rattle.scene_board.proofs.shown.bank_shown.Tie as tie
+use Rattle.scene_banks.proofs.bank_shown.Statement.{statement}
+use Rattle.scene_banks.proofs.bank_shown.Tie as tie
 
 within-limits-requires : tie.Need-within-limits-requires
 within-limits-requires c κs = search needs
