@@ -1,8 +1,8 @@
 // What is wrong with a row, as a line: the row, the column, and what is wrong.
 use text_output::ROOM;
+use text_output::forms::put_form;
+use text_output::forms::put_nth;
 use text_output::put;
-use text_output::put_number;
-use text_output::put_text;
 
 // The columns, by scene_cells' `column_of`.
 pub const SCENE: usize = 0;
@@ -23,6 +23,36 @@ pub const LETTERS: usize = 7;
 
 pub const MENU: usize = 8;
 
+// A fault of no column is one of the whole row.
+pub const NO_COLUMN: usize = 9;
+
+// What is wrong with a row or a cell, by its place in the texts of `put_fault`. Scene_cells' numbers are the first; 0 is nothing.
+pub const BEHIND_A_QUOTE: usize = 3;
+
+pub const HEADER_QUOTE: usize = 4;
+
+pub const BLANK: usize = 5;
+
+pub const MANY_CELLS: usize = 6;
+
+pub const MANY_STEPS: usize = 7;
+
+// What is wrong with a word, by its place in the texts of `put_word_fault`. Scene_steps' numbers of steps are the first, and
+// those of pairs stand behind PAIRS; 0 is nothing.
+pub const PAIRS: usize = 7;
+
+pub const SECOND_BANK: usize = 11;
+
+pub const NO_DECIMAL: usize = 12;
+
+pub const TOO_LARGE: usize = 13;
+
+pub const NO_REVISION: usize = 14;
+
+pub const NO_MIRRORING: usize = 15;
+
+pub const MANY_WORDS: usize = 16;
+
 // Where a fault is: the row, the column, and whether the cell is in quotes.
 pub struct Place {
     pub row: u32,
@@ -30,31 +60,16 @@ pub struct Place {
     pub quoted: bool,
 }
 
-fn put_column(out: &mut [u8; ROOM], len: usize, column: usize) -> usize {
-    match column {
-        SCENE => put_text(out, len, b"scene"),
-        PRG => put_text(out, len, b"prg"),
-        CHR => put_text(out, len, b"chr"),
-        REVISION => put_text(out, len, b"revision"),
-        MIRRORING => put_text(out, len, b"mirroring"),
-        WRITES => put_text(out, len, b"writes"),
-        WINDOW => put_text(out, len, b"window"),
-        LETTERS => put_text(out, len, b"letters"),
-        _ => put_text(out, len, b"menu"),
-    }
-}
-
-pub(crate) fn put_row(out: &mut [u8; ROOM], len: usize, row: u32) -> usize {
-    let a = put_text(out, len, b"row ");
-    put_number(out, a, row)
-}
-
 // The beginning of a fault.
-pub(crate) fn put_place(out: &mut [u8; ROOM], len: usize, row: u32, column: usize) -> usize {
-    let a = put_row(out, len, row);
-    let b = put_text(out, a, b", ");
-    let c = put_column(out, b, column);
-    put_text(out, c, b": ")
+fn put_place(out: &mut [u8; ROOM], len: usize, row: u32, column: usize) -> usize {
+    let numbers = [row];
+    let a = put_form(out, len, b"row %d", &numbers);
+    put_nth(
+        out,
+        a,
+        b", scene: |, prg: |, chr: |, revision: |, mirroring: |, writes: |, window: |, letters: |, menu: |: ",
+        column,
+    )
 }
 
 // A cell's bytes; in quotes a doubled quote stands for one.
@@ -73,44 +88,65 @@ pub(crate) fn put_cell(out: &mut [u8; ROOM], len: usize, cell: &[u8], quoted: bo
     n
 }
 
-// A word that is wrong, in single quotes, and what is wrong with it.
+// A fault of a row or a cell.
 pub(crate) fn put_fault(
-    out: &mut [u8; ROOM],
-    len: usize,
-    at: Place,
-    word: &[u8],
-    wrong: &[u8],
-) -> usize {
-    let a = put_place(out, len, at.row, at.column);
-    let b = put(out, a, b'\'');
-    let c = put_cell(out, b, word, at.quoted);
-    let d = put(out, c, b'\'');
-    let e = put_text(out, d, wrong);
-    put(out, e, b'\n')
-}
-
-// A fault of a whole cell.
-pub(crate) fn put_cell_fault(
     out: &mut [u8; ROOM],
     len: usize,
     row: u32,
     column: usize,
-    wrong: &[u8],
+    fault: usize,
 ) -> usize {
+    if fault == 0 {
+        return len;
+    }
     let a = put_place(out, len, row, column);
-    let b = put_text(out, a, wrong);
-    put(out, b, b'\n')
+    put_nth(
+        out,
+        a,
+        b"|a quote is never closed, so the sheet ends here\n\
+        |something stands behind the closing quote\n\
+        |something stands behind a closing quote\n\
+        |a quote is not closed, or something stands behind it\n\
+        |blank\n\
+        |more cells than the header has\n\
+        |more than 4096 steps\n",
+        fault,
+    )
 }
 
-// A fault of a whole row.
-pub(crate) fn put_row_fault(out: &mut [u8; ROOM], len: usize, row: u32, wrong: &[u8]) -> usize {
-    let a = put_row(out, len, row);
-    let b = put_text(out, a, b": ");
-    let c = put_text(out, b, wrong);
-    put(out, c, b'\n')
-}
-
-// A cell with more steps than there is room for.
-pub(crate) fn put_room_fault(out: &mut [u8; ROOM], len: usize, at: Place) -> usize {
-    put_cell_fault(out, len, at.row, at.column, b"more than 4096 steps")
+// A fault of a word, which stands in single quotes.
+pub(crate) fn put_word_fault(
+    out: &mut [u8; ROOM],
+    len: usize,
+    at: Place,
+    word: &[u8],
+    fault: usize,
+) -> usize {
+    if fault == 0 {
+        return len;
+    }
+    let a = put_place(out, len, at.row, at.column);
+    let b = put(out, a, b'\'');
+    let c = put_cell(out, b, word, at.quoted);
+    put_nth(
+        out,
+        c,
+        b"|' is no hexadecimal address\n\
+        |' has an address above FFFF\n\
+        |' is no hexadecimal byte\n\
+        |' has a byte above FF\n\
+        |' is no number of clocks\n\
+        |' is above 1000000 clocks\n\
+        |' is no step: AAAA=BB, +N or reset\n\
+        |' is no pair slot:bank\n\
+        |' has no slot of 0 to 7\n\
+        |' has no bank of 0 to 255\n\
+        |' is a second bank for its slot\n\
+        |' is no decimal number\n\
+        |' is too large\n\
+        |' is no revision: A or B\n\
+        |' is no mirroring: V, H, A, B or 4\n\
+        |' is more than one word\n",
+        fault,
+    )
 }

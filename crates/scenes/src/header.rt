@@ -1,12 +1,16 @@
 // The header row: whether its columns will do.
+use crate::faults;
+use crate::faults::HEADER_QUOTE;
 use crate::faults::put_cell;
-use crate::faults::put_row_fault;
+use crate::faults::put_fault;
+use scene_cells::Cell;
 use scene_cells::cell_at;
+use scene_cells::columns::NO_COLUMN;
 use scene_cells::columns::column_of;
 use scene_cells::lookup::Found;
 use scene_cells::lookup::find_column;
 use text_output::ROOM;
-use text_output::put_text;
+use text_output::forms::put_nth;
 
 // Where the header starts and ends, how many cells it has, whether it will do, and how many bytes the output buffer holds.
 pub struct Header {
@@ -17,17 +21,23 @@ pub struct Header {
     pub len: usize,
 }
 
-fn put_named(
-    out: &mut [u8; ROOM],
-    len: usize,
-    before: &[u8],
-    name: &[u8],
-    quoted: bool,
-    behind: &[u8],
-) -> usize {
-    let a = put_text(out, len, before);
+// What is wrong with a name, by its place in the texts of `put_named`; 0 is nothing.
+const TWICE: usize = 1;
+
+const NOT_USED: usize = 2;
+
+fn put_named(out: &mut [u8; ROOM], len: usize, name: &[u8], quoted: bool, fault: usize) -> usize {
+    if fault == 0 {
+        return len;
+    }
+    let a = put_nth(
+        out,
+        len,
+        b"|row 1: two columns are named '|row 1: the column '",
+        fault,
+    );
     let b = put_cell(out, a, name, quoted);
-    put_text(out, b, behind)
+    put_nth(out, b, b"|'\n|' is not used\n", fault)
 }
 
 // Whether a column's first cell is the one that has k cells before it.
@@ -38,42 +48,34 @@ fn is_first(text: &[u8], header: usize, column: u8, k: usize) -> bool {
     }
 }
 
-// Reports a header cell that is no column, or a column again. The header is at its next cell.
-fn tell_name(
-    header: Header,
-    out: &mut [u8; ROOM],
-    text: &[u8],
-    name: &[u8],
-    quoted: bool,
-) -> Header {
-    let mut next = header;
+// A name must be a column, and not again. The k cells before it are the header's.
+fn name_fault(text: &[u8], header: usize, k: usize, name: &[u8]) -> usize {
     let column = column_of(name);
-    if column < 9 {
-        if is_first(text, header.start, column, header.cells) {
-            return next;
-        }
-        next.good = false;
-        next.len = put_named(
-            out,
-            header.len,
-            b"row 1: two columns are named '",
-            name,
-            quoted,
-            b"'\n",
-        );
-        return next;
+    if name.len() == 0 {
+        return 0;
     }
-    if name.len() > 0 {
-        next.len = put_named(
-            out,
-            header.len,
-            b"row 1: the column '",
-            name,
-            quoted,
-            b"' is not used\n",
-        );
+    if column == NO_COLUMN {
+        return NOT_USED;
     }
-    next
+    if is_first(text, header, column, k) {
+        return 0;
+    }
+    TWICE
+}
+
+// Takes the next cell, which holds a name.
+fn take(given: Header, text: &[u8], out: &mut [u8; ROOM], cell: Cell, name: &[u8]) -> Header {
+    let mut header = given;
+    let fault = name_fault(text, given.start, given.cells, name);
+    let len = put_named(out, given.len, name, cell.quoted, fault);
+    header.next = cell.next;
+    header.cells = std::num::wrapping_add_usize(given.cells, 1);
+    header.good = given.good & (fault != TWICE) & (cell.wrong == 0);
+    header.len = len;
+    if cell.wrong != 0 {
+        header.len = put_fault(out, len, 1, faults::NO_COLUMN, HEADER_QUOTE);
+    }
+    header
 }
 
 // Where the header starts: some spreadsheets put three bytes before it that say UTF-8.
@@ -102,20 +104,9 @@ pub(crate) fn read_header(text: &[u8], out: &mut [u8; ROOM], len: usize) -> Head
         let cell = cell_at(text, header.next);
         let from = cell.from;
         let to = cell.to;
-        header = tell_name(header, out, text, &text[from..to], cell.quoted);
-        header.next = cell.next;
-        header.cells = std::num::wrapping_add_usize(header.cells, 1);
-        if cell.wrong != 0 {
-            header.good = false;
-            header.len = put_row_fault(
-                out,
-                header.len,
-                1,
-                b"a quote is not closed, or something stands behind it",
-            );
-        }
+        header = take(header, text, out, cell, &text[from..to]);
         if cell.last {
-            return header;
+            break;
         }
     }
     header

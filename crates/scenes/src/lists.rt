@@ -1,23 +1,18 @@
 // The cells of many words: steps, and letters.
 use crate::faults::LETTERS;
+use crate::faults::MANY_STEPS;
+use crate::faults::PAIRS;
 use crate::faults::Place;
+use crate::faults::SECOND_BANK;
 use crate::faults::put_fault;
-use crate::faults::put_room_fault;
+use crate::faults::put_word_fault;
 use crate::row::Starts;
 use crate::row::cell_in;
 use crate::scene::MOST_STEPS;
 use scene_steps::Step;
 use scene_steps::letters::ANY_BANK;
-use scene_steps::letters::NO_PAIR;
-use scene_steps::letters::NO_SLOT;
 use scene_steps::letters::Pair;
 use scene_steps::letters::pair_of;
-use scene_steps::step::LARGE_ADDRESS;
-use scene_steps::step::LARGE_BYTE;
-use scene_steps::step::MANY_CLOCKS;
-use scene_steps::step::NO_ADDRESS;
-use scene_steps::step::NO_BYTE;
-use scene_steps::step::NO_CLOCKS;
 use scene_steps::step::code_of;
 use scene_steps::step::step_of;
 use text_output::ROOM;
@@ -30,157 +25,94 @@ pub struct Words {
     pub len: usize,
 }
 
-impl Words {
-    fn faulty(mut self, len: usize) -> Words {
-        self.good = false;
-        self.len = len;
-        self
-    }
+// Each of the functions that take a word hands back what is wrong with it, 0 for nothing.
 
-    fn counted(mut self) -> Words {
-        self.count = std::num::wrapping_add_usize(self.count, 1);
-        self
-    }
-}
-
-fn put_step_fault(out: &mut [u8; ROOM], len: usize, at: Place, word: &[u8], wrong: u8) -> usize {
-    match wrong {
-        NO_ADDRESS => put_fault(out, len, at, word, b" is no hexadecimal address"),
-        LARGE_ADDRESS => put_fault(out, len, at, word, b" has an address above FFFF"),
-        NO_BYTE => put_fault(out, len, at, word, b" is no hexadecimal byte"),
-        LARGE_BYTE => put_fault(out, len, at, word, b" has a byte above FF"),
-        NO_CLOCKS => put_fault(out, len, at, word, b" is no number of clocks"),
-        MANY_CLOCKS => put_fault(out, len, at, word, b" is above 1000000 clocks"),
-        _ => put_fault(out, len, at, word, b" is no step: AAAA=BB, +N or reset"),
-    }
-}
-
-fn put_pair_fault(out: &mut [u8; ROOM], len: usize, at: Place, word: &[u8], wrong: u8) -> usize {
-    match wrong {
-        NO_PAIR => put_fault(out, len, at, word, b" is no pair slot:bank"),
-        NO_SLOT => put_fault(out, len, at, word, b" has no slot of 0 to 7"),
-        _ => put_fault(out, len, at, word, b" has no bank of 0 to 255"),
-    }
-}
-
-// Keeps a step as its number, if it is right and there is room.
-fn take_step(
-    given: Words,
-    codes: &mut [u32; MOST_STEPS],
-    out: &mut [u8; ROOM],
-    at: Place,
-    word: &[u8],
-) -> Words {
+// Keeps a step as its number, if there is room.
+fn take_step(codes: &mut [u32], count: usize, word: &[u8]) -> usize {
     let step = step_of(word);
     let code = code_of(step);
-    match step {
-        Step::Wrong(wrong) => given.faulty(put_step_fault(out, given.len, at, word, wrong)),
-        Step::Write(_, _) | Step::Clocks(_) | Step::Reset => {
-            let i = given.count;
-            if i < MOST_STEPS {
-                codes[i] = code;
-            }
-            given.counted()
-        }
+    if let Step::Wrong(wrong) = step {
+        return wrong as usize;
     }
+    if count < codes.len() {
+        codes[count] = code;
+    }
+    0
 }
 
-// Keeps a pair's bank for its slot.
-fn take_pair(
-    given: Words,
-    banks: &mut [u32; 8],
-    out: &mut [u8; ROOM],
-    at: Place,
-    word: &[u8],
-) -> Words {
+// Keeps a bank for its slot.
+fn keep_bank(banks: &mut [u32], slot: usize, bank: u32) -> usize {
+    if slot < banks.len() {
+        if banks[slot] != ANY_BANK {
+            return SECOND_BANK;
+        }
+        banks[slot] = bank;
+    }
+    0
+}
+
+fn take_pair(banks: &mut [u32], word: &[u8]) -> usize {
     match pair_of(word) {
-        Pair::Wrong(wrong) => given.faulty(put_pair_fault(out, given.len, at, word, wrong)),
-        Pair::Letter(slot, bank) => {
-            let i = slot as usize;
-            if i < 8 {
-                if banks[i] != ANY_BANK {
-                    return given.faulty(put_fault(
-                        out,
-                        given.len,
-                        at,
-                        word,
-                        b" is a second bank for its slot",
-                    ));
-                }
-                banks[i] = bank;
-            }
-            given.counted()
-        }
+        Pair::Wrong(wrong) => PAIRS + wrong as usize,
+        Pair::Letter(slot, bank) => keep_bank(banks, slot as usize, bank),
     }
-}
-
-// Refuses a cell with too many steps.
-fn put_many(out: &mut [u8; ROOM], words: Words, at: Place) -> Words {
-    if MOST_STEPS < words.count {
-        return words.faulty(put_room_fault(out, words.len, at));
-    }
-    words
 }
 
 // A word of the letters' column is a pair, of the others a step.
-fn take_word(
-    given: Words,
-    codes: &mut [u32; MOST_STEPS],
-    banks: &mut [u32; 8],
-    out: &mut [u8; ROOM],
-    at: Place,
-    word: &[u8],
-) -> Words {
-    if at.column == LETTERS {
-        return take_pair(given, banks, out, at, word);
+fn take_word(kept: &mut [u32], count: usize, column: usize, word: &[u8]) -> usize {
+    if column == LETTERS {
+        return take_pair(kept, word);
     }
-    take_step(given, codes, out, at, word)
+    take_step(kept, count, word)
 }
 
-// A column's words: its steps go to codes, its pairs to banks.
-pub(crate) fn read_words(
-    text: &[u8],
-    starts: Starts,
-    codes: &mut [u32; MOST_STEPS],
-    banks: &mut [u32; 8],
-    out: &mut [u8; ROOM],
-    len: usize,
-    row: u32,
-    column: usize,
-) -> Words {
+fn take_words(cell: &[u8], kept: &mut [u32], out: &mut [u8; ROOM], len: usize, at: Place) -> Words {
     let mut words = Words {
         count: 0,
         good: true,
         len,
     };
+    let mut behind: usize = 0;
+    let mut left = cell.len();
+    while left > 0 {
+        left -= 1;
+        let word = next_word(cell, behind);
+        let from = word.from;
+        let to = word.to;
+        if from == to {
+            break;
+        }
+        let fault = take_word(kept, words.count, at.column, &cell[from..to]);
+        words.len = put_word_fault(out, words.len, at, &cell[from..to], fault);
+        words.good = words.good & (fault == 0);
+        words.count = std::num::wrapping_add_usize(words.count, (fault == 0) as usize);
+        behind = to;
+    }
+    words
+}
+
+// A column's words: steps are kept one behind the other, a pair's bank in its slot's place.
+pub(crate) fn read_words(
+    text: &[u8],
+    starts: Starts,
+    kept: &mut [u32],
+    out: &mut [u8; ROOM],
+    len: usize,
+    row: u32,
+    column: usize,
+) -> Words {
     let span = cell_in(text, starts, column);
-    let place = Place {
+    let from = span.from;
+    let to = span.to;
+    let at = Place {
         row,
         column,
         quoted: span.quoted,
     };
-    let mut at = span.from;
-    let end = span.to;
-    let mut left = end;
-    while left > 0 {
-        left -= 1;
-        let word = next_word(&text[0..end], at);
-        let from = word.from;
-        let to = word.to;
-        if from == to {
-            return put_many(out, words, place);
-        }
-        words = take_word(words, codes, banks, out, place, &text[from..to]);
-        at = to;
+    let mut words = take_words(&text[from..to], kept, out, len, at);
+    if MOST_STEPS < words.count {
+        words.good = false;
+        words.len = put_fault(out, words.len, row, column, MANY_STEPS);
     }
-    put_many(out, words, place)
-}
-
-// No bank is asked of any slot.
-pub(crate) fn clear(banks: &mut [u32; 8]) {
-    let mut i: usize = 0;
-    while i < 8 {
-        banks[i] = ANY_BANK;
-        i += 1;
-    }
+    words
 }

@@ -30,31 +30,21 @@ fn was_read(fd: i32) -> bool {
     libc::read(fd, &mut more) >= 0
 }
 
-fn run_sheet(
-    fixed: &[u8; 525312],
-    changing: &mut [u8; 274432],
-    text: &[u8; SHEET],
-    n: usize,
-    out: &mut [u8; 65536],
-) {
+fn run_sheet(text: &[u8; SHEET], n: usize) {
     let all: &[u8] = text;
     if n <= all.len() {
-        run(fixed, changing, &all[0..n], out);
+        run(&all[0..n]);
     }
 }
 
-// The buffers have the largest sizes that a layout can ask.
 fn play(fd: i32, name: &[u8]) {
-    let mut fixed = [0u8; 525312];
-    let mut changing = [0u8; 274432];
     let mut text = [0u8; SHEET];
-    let mut out = [0u8; 65536];
     let n = read_sheet(fd, &mut text);
     if !was_read(fd) {
         os::fail(name);
         return;
     }
-    run_sheet(&fixed, &mut changing, &text, n, &mut out);
+    run_sheet(&text, n);
 }
 
 fn play_file(path: &[u8]) {

@@ -1,6 +1,4 @@
-// A scene on a board of its own, in buffers that hold any layout. A board that was created refuses no call: `Demand3` in crate
-// vrc6_ledger.
-use crate::scene::MOST_STEPS;
+// A scene on a board of its own. A board that was created refuses no call: `Demand3` in crate vrc6_ledger.
 use crate::scene::Scene;
 use host_creation::NumberedSettings;
 use irq::VrcIrq;
@@ -17,64 +15,40 @@ fn none() -> Ended {
     }
 }
 
-// A cell with more than MOST_STEPS steps was refused, so the tests hold.
-fn play_on(
-    scene: Scene,
-    layout: MemoryLayout,
-    fixed: &[u8],
-    changing: &mut [u8],
-    writes: &[u32; MOST_STEPS],
-    menu: &[u32; MOST_STEPS],
-) -> Ended {
-    let settings = NumberedSettings::new((scene.mirroring % 256) as u8, scene.revision_b as u8);
-    let first: &[u32] = writes;
-    let second: &[u32] = menu;
-    let n = scene.writes;
-    let m = scene.menu;
-    if n <= first.len() {
-        if m <= second.len() {
-            return play_scene(
-                layout,
-                settings,
-                fixed,
-                changing,
-                &first[0..n],
-                &second[0..m],
-            );
-        }
-    }
-    none()
+// The longest fixed buffer that a layout can ask: no sheet says what ROM holds, so its bytes are 0.
+pub(crate) fn rom() -> [u8; 525312] {
+    [0; 525312]
 }
 
-// PRG RAM and CIRAM are those of layout S. The buffers have room for every layout, so both tests hold.
-pub(crate) fn play_steps(
-    scene: Scene,
-    fixed: &[u8],
-    changing: &mut [u8],
-    writes: &[u32; MOST_STEPS],
-    menu: &[u32; MOST_STEPS],
-) -> Ended {
-    let layout = MemoryLayout {
+// PRG RAM and CIRAM are those of layout S.
+fn layout_of(scene: Scene) -> MemoryLayout {
+    MemoryLayout {
         prg_rom: scene.prg,
         chr: scene.chr,
         chr_writable: false,
         prg_ram: 8192,
         ciram: 2048,
-    };
+    }
+}
+
+// The bytes of both.
+fn ram() -> [u8; 10240] {
+    [0; 10240]
+}
+
+fn settings_of(scene: Scene) -> NumberedSettings {
+    NumberedSettings::new((scene.mirroring % 256) as u8, scene.revision_b as u8)
+}
+
+// The fixed buffer is the longest, so the second test holds.
+pub(crate) fn play_steps(scene: Scene, fixed: &[u8], writes: &[u32], menu: &[u32]) -> Ended {
+    let layout = layout_of(scene);
+    let settings = settings_of(scene);
+    let mut changing = ram();
     if layout.within_limits() {
         let n = layout.fixed_length() as usize;
-        let m = layout.changing_length() as usize;
         if n <= fixed.len() {
-            if m <= changing.len() {
-                return play_on(
-                    scene,
-                    layout,
-                    &fixed[0..n],
-                    &mut changing[0..m],
-                    writes,
-                    menu,
-                );
-            }
+            return play_scene(layout, settings, &fixed[0..n], &mut changing, writes, menu);
         }
     }
     none()

@@ -1,8 +1,9 @@
 // A row: its cells, and what is wrong with their quotes.
-use crate::faults::put_cell_fault;
-use crate::faults::put_row_fault;
+use crate::faults::BEHIND_A_QUOTE;
+use crate::faults::NO_COLUMN;
+use crate::faults::put_fault;
+use scene_cells::BEHIND_QUOTE;
 use scene_cells::Cell;
-use scene_cells::UNCLOSED;
 use scene_cells::cell_at;
 use scene_cells::columns::column_of;
 use scene_cells::lookup::cell_under;
@@ -33,7 +34,7 @@ pub(crate) fn cell_in(text: &[u8], starts: Starts, column: usize) -> Cell
     cell_under(text, starts.header, starts.row, (column % 256) as u8)
 }
 
-// The column of the header cell that has k cells before it, 9 for none.
+// The column of the header cell that has k cells before it, or NO_COLUMN.
 fn column_at(text: &[u8], header: usize, k: usize) -> usize {
     let cell = nth_cell(text, header, k);
     let from = cell.from;
@@ -41,34 +42,12 @@ fn column_at(text: &[u8], header: usize, k: usize) -> usize {
     column_of(&text[from..to]) as usize
 }
 
-fn put_wrong(out: &mut [u8; ROOM], len: usize, row: u32, column: usize, wrong: u8) -> usize {
-    if column < 9 {
-        if wrong == UNCLOSED {
-            return put_cell_fault(
-                out,
-                len,
-                row,
-                column,
-                b"a quote is never closed, so the sheet ends here",
-            );
-        }
-        return put_cell_fault(
-            out,
-            len,
-            row,
-            column,
-            b"something stands behind the closing quote",
-        );
+// What is wrong with the quotes of a cell, which may have no column.
+fn quote_fault(column: usize, wrong: u8) -> usize {
+    if (wrong == BEHIND_QUOTE) & (column == NO_COLUMN) {
+        return BEHIND_A_QUOTE;
     }
-    if wrong == UNCLOSED {
-        return put_row_fault(
-            out,
-            len,
-            row,
-            b"a quote is never closed, so the sheet ends here",
-        );
-    }
-    put_row_fault(out, len, row, b"something stands behind a closing quote")
+    wrong as usize
 }
 
 // Takes the next cell.
@@ -88,8 +67,9 @@ fn take(
     }
     if cell.wrong != 0 {
         let column = column_at(text, starts.header, given.cells);
+        let fault = quote_fault(column, cell.wrong);
         row.good = false;
-        row.len = put_wrong(out, given.len, number, column, cell.wrong);
+        row.len = put_fault(out, given.len, number, column, fault);
     }
     row
 }
@@ -113,10 +93,9 @@ pub(crate) fn read_row(
     while left > 0 {
         left -= 1;
         let cell = cell_at(text, row.next);
-        let last = cell.last;
         row = take(row, text, starts, out, number, cell);
-        if last {
-            return row;
+        if cell.last {
+            break;
         }
     }
     row

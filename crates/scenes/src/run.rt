@@ -1,28 +1,37 @@
 // The sheet from its header to its end.
 use crate::checking::check;
+use crate::faults::BLANK;
+use crate::faults::MANY_CELLS;
+use crate::faults::NO_COLUMN;
 use crate::faults::SCENE;
 use crate::faults::WRITES;
 use crate::faults::put_cell;
-use crate::faults::put_row;
-use crate::faults::put_row_fault;
+use crate::faults::put_fault;
 use crate::header::Header;
 use crate::header::read_header;
 use crate::playing::play_steps;
+use crate::playing::rom;
 use crate::reading::read_scene;
+use crate::row::Row;
 use crate::row::Starts;
 use crate::row::cell_in;
 use crate::row::read_row;
 use crate::scene::MOST_STEPS;
 use crate::scene::Scene;
+use crate::totals::BAD_ROW;
+use crate::totals::BLANK_ROW;
+use crate::totals::Outcome;
 use crate::totals::Totals;
 use libc::STDERR_FILENO;
 use scene_cells::lookup::Found;
 use scene_cells::lookup::find_column;
+use scene_steps::letters::ANY_BANK;
 use text_output::ROOM;
 use text_output::flush;
+use text_output::forms::put_form;
+use text_output::forms::put_nth;
 use text_output::put;
 use text_output::put_large;
-use text_output::put_number;
 use text_output::put_text;
 
 // The bytes that a sheet may have.
@@ -33,47 +42,53 @@ const PROGRESS: u64 = 500000;
 
 // The row's number, and the scene's name if it has one.
 fn put_name(out: &mut [u8; ROOM], len: usize, row: u32, text: &[u8], starts: Starts) -> usize {
-    let a = put_row(out, len, row);
     let span = cell_in(text, starts, SCENE);
     let from = span.from;
     let to = span.to;
-    if from < to {
-        let b = put_text(out, a, b": ");
-        let c = put_cell(out, b, &text[from..to], span.quoted);
-        return put(out, c, b'\n');
+    let numbers = [row];
+    let a = put_form(out, len, b"row %d", &numbers);
+    let b = put_nth(out, a, b"|: ", (from < to) as usize);
+    let c = put_cell(out, b, &text[from..to], span.quoted);
+    put(out, c, b'\n')
+}
+
+// The first n steps. A cell with more than MOST_STEPS was refused, so there are as many.
+fn first_of(codes: &[u32], n: usize) -> &[u32] {
+    if n <= codes.len() {
+        return &codes[0..n];
     }
-    put(out, a, b'\n')
+    codes
 }
 
 // A scene whose cells are right.
 fn play_scene(
-    totals: Totals,
     scene: Scene,
     fixed: &[u8],
-    changing: &mut [u8],
-    writes: &[u32; MOST_STEPS],
-    menu: &[u32; MOST_STEPS],
+    writes: &[u32],
+    menu: &[u32],
     asked: [u32; 8],
     out: &mut [u8; ROOM],
-) -> Totals {
-    let ended = play_steps(scene, fixed, changing, writes, menu);
+    len: usize,
+) -> Outcome {
+    let ended = play_steps(scene, fixed, writes, menu);
     if ended.refusal != 0 {
-        return totals.bad_row(put_text(out, totals.len, b"  no board takes these lengths\n"));
+        let refused = put_text(out, len, b"  no board takes these lengths\n");
+        return Outcome::unplayed(BAD_ROW, refused);
     }
-    check(totals, scene, ended, asked, menu, out)
+    check(scene, ended, asked, menu, out, len)
 }
 
 fn play_cells(
-    totals: Totals,
     text: &[u8],
     starts: Starts,
     fixed: &[u8],
-    changing: &mut [u8],
     out: &mut [u8; ROOM],
-) -> Totals {
+    len: usize,
+    row: u32,
+) -> Outcome {
     let mut writes = [0u32; MOST_STEPS];
     let mut menu = [0u32; MOST_STEPS];
-    let mut asked = [0u32; 8];
+    let mut asked = [ANY_BANK; 8];
     let scene = read_scene(
         text,
         starts,
@@ -81,120 +96,126 @@ fn play_cells(
         &mut menu,
         &mut asked,
         out,
-        totals.len,
-        totals.row,
+        len,
+        row,
     );
     if !scene.good {
-        return totals.bad_row(scene.len);
+        return Outcome::unplayed(BAD_ROW, scene.len);
     }
-    let len = put_name(out, scene.len, totals.row, text, starts);
-    let named = totals.holding(len);
-    play_scene(named, scene, fixed, changing, &writes, &menu, asked, out)
+    let named = put_name(out, scene.len, row, text, starts);
+    let first = first_of(&writes, scene.writes);
+    let second = first_of(&menu, scene.menu);
+    play_scene(scene, fixed, first, second, asked, out, named)
 }
 
-// A line of progress, for sheets that take long.
-fn tell(totals: Totals) -> Totals {
-    let swept = std::num::wrapping_sub_u64(totals.moments, totals.told);
-    if swept < PROGRESS {
-        return totals;
+// Why a row whose quotes are right is not played.
+fn row_fault(row: Row, cells: usize) -> usize {
+    if !row.filled {
+        return BLANK;
+    }
+    if cells < row.cells {
+        return MANY_CELLS;
+    }
+    0
+}
+
+// A row, under a header of so many cells.
+fn play_row(
+    row: Row,
+    cells: usize,
+    text: &[u8],
+    starts: Starts,
+    fixed: &[u8],
+    out: &mut [u8; ROOM],
+    number: u32,
+) -> Outcome {
+    if !row.good {
+        return Outcome::unplayed(BAD_ROW, row.len);
+    }
+    let fault = row_fault(row, cells);
+    if fault == 0 {
+        return play_cells(text, starts, fixed, out, row.len, number);
+    }
+    let len = put_fault(out, row.len, number, NO_COLUMN, fault);
+    if fault == BLANK {
+        return Outcome::unplayed(BLANK_ROW, len);
+    }
+    Outcome::unplayed(BAD_ROW, len)
+}
+
+// A line of progress, for sheets that take long, if so many moments were swept since the last. Hands back the moments told.
+fn tell(row: u32, moments: u64, told: u64) -> u64 {
+    if std::num::wrapping_sub_u64(moments, told) < PROGRESS {
+        return told;
     }
     io::write_all(STDERR_FILENO, b"row ");
-    io::print_decimal(STDERR_FILENO, totals.row as u64);
+    io::print_decimal(STDERR_FILENO, row as u64);
     io::write_all(STDERR_FILENO, b": ");
-    io::print_decimal(STDERR_FILENO, totals.moments);
+    io::print_decimal(STDERR_FILENO, moments);
     io::write_all(STDERR_FILENO, b" moments swept\n");
-    totals.telling()
+    moments
 }
 
-// Where the next row starts, and the totals.
-struct Played {
-    totals: Totals,
-    next: usize,
-}
-
-fn play_row(
-    totals: Totals,
-    header: Header,
-    text: &[u8],
-    start: usize,
-    fixed: &[u8],
-    changing: &mut [u8],
-    out: &mut [u8; ROOM],
-) -> Played {
-    let starts = Starts {
-        header: header.start,
-        row: start,
-    };
-    let row = read_row(text, starts, out, totals.len, totals.row);
-    let next = row.next;
-    if !row.good {
-        let totals = totals.bad_row(row.len);
-        return Played { totals, next };
+// Each number with what it counts, which has a name for several and a name for 1.
+fn put_counts(out: &mut [u8; ROOM], len: usize, counts: [u64; 5]) -> usize {
+    let mut n = len;
+    let mut i: usize = 0;
+    while i < 5 {
+        let count = counts[i];
+        let mut name = 2 * i;
+        if count == 1 {
+            name += 1;
+        }
+        n = put_large(out, n, count);
+        n = put_nth(
+            out,
+            n,
+            b" scenes, | scene, \
+            | right, | right, \
+            | moments swept, | moment swept, \
+            | wrong\n| wrong\n\
+            | bad rows\n| bad row\n",
+            name,
+        );
+        i += 1;
     }
-    if !row.filled {
-        let len = put_row_fault(out, row.len, totals.row, b"blank");
-        let totals = totals.holding(len);
-        return Played { totals, next };
-    }
-    if header.cells < row.cells {
-        let len = put_row_fault(out, row.len, totals.row, b"more cells than the header has");
-        let totals = totals.bad_row(len);
-        return Played { totals, next };
-    }
-    let totals = play_cells(totals.holding(row.len), text, starts, fixed, changing, out);
-    Played {
-        totals: tell(totals),
-        next,
-    }
-}
-
-// A number and what it counts, in the singular for 1.
-fn put_count(out: &mut [u8; ROOM], len: usize, n: u64, one: &[u8], many: &[u8]) -> usize {
-    let a = put_large(out, len, n);
-    if n == 1 {
-        return put_text(out, a, one);
-    }
-    put_text(out, a, many)
+    n
 }
 
 fn finish(totals: Totals, out: &mut [u8; ROOM]) {
-    let a = put_count(
-        out,
-        totals.len,
+    let counts = [
         totals.scenes as u64,
-        b" scene, ",
-        b" scenes, ",
-    );
-    let b = put_number(out, a, totals.right);
-    let c = put_text(out, b, b" right, ");
-    let d = put_count(
-        out,
-        c,
+        totals.right as u64,
         totals.moments,
-        b" moment swept, ",
-        b" moments swept, ",
-    );
-    let e = put_large(out, d, totals.wrong);
-    let f = put_text(out, e, b" wrong\n");
-    let g = put_count(out, f, totals.bad as u64, b" bad row\n", b" bad rows\n");
-    flush(out, g);
+        totals.wrong,
+        totals.bad as u64,
+    ];
+    let len = put_counts(out, totals.len, counts);
+    flush(out, len);
 }
 
-fn play_rows(header: Header, text: &[u8], fixed: &[u8], changing: &mut [u8], out: &mut [u8; ROOM]) {
+fn play_rows(header: Header, text: &[u8], fixed: &[u8], out: &mut [u8; ROOM]) -> Totals {
     let mut totals = Totals::new(header.len);
+    let mut told: u64 = 0;
     let mut at = header.next;
     let mut left = text.len();
     while left > 0 {
         left -= 1;
         if text.len() <= at {
-            finish(totals, out);
-            return;
+            break;
         }
-        let played = play_row(totals.next_row(), header, text, at, fixed, changing, out);
-        totals = played.totals;
-        at = played.next;
+        let starts = Starts {
+            header: header.start,
+            row: at,
+        };
+        let number = totals.next_row();
+        let row = read_row(text, starts, out, totals.len, number);
+        at = row.next;
+        let outcome = play_row(row, header.cells, text, starts, fixed, out, number);
+        totals = totals.add(outcome);
+        told = tell(number, totals.moments, told);
     }
-    finish(totals, out);
+    totals
 }
 
 fn has_writes(text: &[u8], header: usize) -> bool {
@@ -204,37 +225,53 @@ fn has_writes(text: &[u8], header: usize) -> bool {
     }
 }
 
-// Whether a sheet with this header can be played; reports why not.
-fn will_do(header: Header, text: &[u8], out: &mut [u8; ROOM]) -> bool {
+// Why a sheet can't be played, by its place in the texts of `put_sheet_fault`; 0 if it can.
+const TOO_LONG: usize = 1;
+
+const EMPTY: usize = 2;
+
+const NO_WRITES: usize = 3;
+
+// What is wrong with the header was told already, so it has no text.
+const BAD_HEADER: usize = 4;
+
+fn sheet_fault(header: Header, text: &[u8]) -> usize {
     if MOST_BYTES < text.len() {
-        let len = put_text(out, header.len, b"the sheet is longer than 2097152 bytes\n");
-        flush(out, len);
-        return false;
+        return TOO_LONG;
     }
     if text.len() == 0 {
-        let len = put_text(out, header.len, b"the sheet is empty\n");
-        flush(out, len);
-        return false;
+        return EMPTY;
     }
     if !has_writes(text, header.start) {
-        let len = put_row_fault(out, header.len, 1, b"no column is named 'writes'");
-        flush(out, len);
-        return false;
+        return NO_WRITES;
     }
     if !header.good {
-        flush(out, header.len);
+        return BAD_HEADER;
     }
-    header.good
+    0
 }
 
-pub(crate) fn run(
-    fixed: &[u8; 525312],
-    changing: &mut [u8; 274432],
-    text: &[u8],
-    out: &mut [u8; ROOM],
-) {
-    let header = read_header(text, out, 0);
-    if will_do(header, text, out) {
-        play_rows(header, text, fixed, changing, out);
+fn put_sheet_fault(out: &mut [u8; ROOM], len: usize, fault: usize) {
+    let n = put_nth(
+        out,
+        len,
+        b"|the sheet is longer than 2097152 bytes\n\
+        |the sheet is empty\n\
+        |row 1: no column is named 'writes'\n",
+        fault,
+    );
+    flush(out, n);
+}
+
+pub(crate) fn run(text: &[u8]) {
+    let fixed = rom();
+    let mut out = [0u8; ROOM];
+    let header = read_header(text, &mut out, 0);
+    let fault = sheet_fault(header, text);
+    if fault == 0 {
+        let totals = play_rows(header, text, &fixed, &mut out);
+        finish(totals, &mut out);
+        return;
     }
+    put_sheet_fault(&mut out, header.len, fault);
 }

@@ -23,7 +23,7 @@ pub struct Scene {
 
 impl Scene {
     // Layout S of document 01, revision A, vertical mirroring.
-    pub(crate) fn new(len: usize) -> Scene {
+    pub(crate) fn new() -> Scene {
         Scene {
             prg: 131072,
             chr: 131072,
@@ -33,7 +33,7 @@ impl Scene {
             writes: 0,
             menu: 0,
             good: true,
-            len,
+            len: 0,
         }
     }
 }

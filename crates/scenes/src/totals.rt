@@ -1,5 +1,48 @@
 // What is kept from row to row.
 
+// What a row came to.
+pub const BLANK_ROW: u8 = 0;
+
+pub const BAD_ROW: u8 = 1;
+
+pub const WRONG_SCENE: u8 = 2;
+
+pub const RIGHT_SCENE: u8 = 3;
+
+pub struct Outcome {
+    // One of the four above.
+    pub kind: u8,
+    // How many moments were swept, and how many of them were wrong.
+    pub moments: u32,
+    pub wrong: u32,
+    // How many bytes the output buffer holds.
+    pub len: usize,
+}
+
+impl Outcome {
+    pub(crate) fn unplayed(kind: u8, len: usize) -> Outcome {
+        Outcome {
+            kind,
+            moments: 0,
+            wrong: 0,
+            len,
+        }
+    }
+
+    pub(crate) fn played(right: bool, moments: u32, wrong: u32, len: usize) -> Outcome {
+        let mut kind = WRONG_SCENE;
+        if right {
+            kind = RIGHT_SCENE;
+        }
+        Outcome {
+            kind,
+            moments,
+            wrong,
+            len,
+        }
+    }
+}
+
 pub struct Totals {
     // How many bytes the output buffer holds.
     pub len: usize,
@@ -11,8 +54,6 @@ pub struct Totals {
     pub moments: u64,
     pub wrong: u64,
     pub bad: u32,
-    // The moments when progress was last reported.
-    pub told: u64,
 }
 
 fn sum(a: u32, b: u32) -> u32 {
@@ -29,40 +70,23 @@ impl Totals {
             moments: 0,
             wrong: 0,
             bad: 0,
-            told: 0,
         }
     }
 
-    pub(crate) fn holding(mut self, len: usize) -> Totals {
-        self.len = len;
-        self
+    pub(crate) fn next_row(self) -> u32 {
+        sum(self.row, 1)
     }
 
-    pub(crate) fn next_row(mut self) -> Totals {
+    // With the next row.
+    pub(crate) fn add(mut self, row: Outcome) -> Totals {
+        let kind = row.kind;
+        self.len = row.len;
         self.row = sum(self.row, 1);
-        self
-    }
-
-    pub(crate) fn bad_row(mut self, len: usize) -> Totals {
-        self.bad = sum(self.bad, 1);
-        self.len = len;
-        self
-    }
-
-    // A scene that was played: whether it is right, and how many moments were swept and were wrong.
-    pub(crate) fn scene(mut self, len: usize, right: bool, moments: u32, wrong: u32) -> Totals {
-        self.scenes = sum(self.scenes, 1);
-        self.moments = std::num::wrapping_add_u64(self.moments, moments as u64);
-        self.wrong = std::num::wrapping_add_u64(self.wrong, wrong as u64);
-        self.len = len;
-        if right {
-            self.right = sum(self.right, 1);
-        }
-        self
-    }
-
-    pub(crate) fn telling(mut self) -> Totals {
-        self.told = self.moments;
+        self.scenes = sum(self.scenes, (WRONG_SCENE <= kind) as u32);
+        self.right = sum(self.right, (kind == RIGHT_SCENE) as u32);
+        self.moments = std::num::wrapping_add_u64(self.moments, row.moments as u64);
+        self.wrong = std::num::wrapping_add_u64(self.wrong, row.wrong as u64);
+        self.bad = sum(self.bad, (kind == BAD_ROW) as u32);
         self
     }
 }

@@ -1,9 +1,18 @@
--- `play_steps` is safe and ends. Assumes nothing.
+-- `play_steps` is safe: a layout that passes the test is within its limits. Assumes nothing.
 use mathlib.Core.Path.{sym, _∙_}
-use Rattle.memory_layout.proofs.Limited.{limits}
 use borrow.Author.Needs.{needs}
+use Rattle.memory_layout.proofs.Limited.{limits}
 use Rattle.scenes.proofs.playing.play_steps.Statement.{statement}
 use Rattle.scenes.proofs.playing.play_steps.Tie as tie
+
+layout-of-requires : tie.Need-layout-of-requires
+layout-of-requires c κs = search needs
+
+settings-of-requires : tie.Need-settings-of-requires
+settings-of-requires c κs = search needs
+
+ram-requires : tie.Need-ram-requires
+ram-requires c κs = search needs
 
 within-limits-requires : tie.Need-within-limits-requires
 within-limits-requires c κs = search needs
@@ -14,35 +23,20 @@ fixed-length-requires c κs = limits _ (sym (c .before .within-limits .ensures) 
 cast-n : tie.Need-cast-n
 cast-n c = search needs
 
-changing-length-requires : tie.Need-changing-length-requires
-changing-length-requires c κs = limits _ (sym (c .before .before .within-limits .ensures) ∙ c .before .if1 .taken)
+sub-play-scene : tie.Need-sub-play-scene
+sub-play-scene c = search needs
 
-cast-m : tie.Need-cast-m
-cast-m c = search needs
+part-play-scene-start : tie.Need-part-play-scene-start
+part-play-scene-start c = search needs
 
-sub-play-on : tie.Need-sub-play-on
-sub-play-on c = search needs
+part-play-scene-end : tie.Need-part-play-scene-end
+part-play-scene-end c = search needs
 
-part-play-on-start : tie.Need-part-play-on-start
-part-play-on-start c = search needs
+slice-aggregate-play-scene : tie.Need-slice-aggregate-play-scene
+slice-aggregate-play-scene c = search needs
 
-part-play-on-end : tie.Need-part-play-on-end
-part-play-on-end c = search needs
-
-sub-play-on-2 : tie.Need-sub-play-on-2
-sub-play-on-2 c = search needs
-
-part-play-on-start-2 : tie.Need-part-play-on-start-2
-part-play-on-start-2 c = search needs
-
-part-play-on-end-2 : tie.Need-part-play-on-end-2
-part-play-on-end-2 c = search needs
-
-play-on-requires : tie.Need-play-on-requires
-play-on-requires c κs = search needs
-
-same-length : tie.Need-same-length
-same-length c = search needs
+play-scene-requires : tie.Need-play-scene-requires
+play-scene-requires c κs = search needs
 
 returns : tie.Need-returns
 returns c = search needs
@@ -57,19 +51,17 @@ pub play-steps-spec : {M : Type 1} → statement M
 play-steps-spec =
     tie.close
     (tie.spec
+    layout-of-requires
+    settings-of-requires
+    ram-requires
     within-limits-requires
     fixed-length-requires
     cast-n
-    changing-length-requires
-    cast-m
-    sub-play-on
-    part-play-on-start
-    part-play-on-end
-    sub-play-on-2
-    part-play-on-start-2
-    part-play-on-end-2
-    play-on-requires
-    same-length
+    sub-play-scene
+    part-play-scene-start
+    part-play-scene-end
+    slice-aggregate-play-scene
+    play-scene-requires
     returns
     none-requires
     returns-2)
