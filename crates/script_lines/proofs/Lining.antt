@@ -9,7 +9,7 @@ use Rattle.text_words.specs.Names.{byteOfNth, placeIn}
 use Rattle.text_words.specs.Places.{Found}
 use Rattle.text_words.specs.Words.{fromWord, wordOf}
 use Rattle.script_lines.specs.declared.line.Line.{Line}
-use Rattle.script_lines.specs.Lines.{argumentBy, letterAt, lineAlone, lineBy, lineCount, lineForms, lineFrom, lineNames, lineOf, valueForms}
+use Rattle.script_lines.specs.Lines.{argumentBy, letterAt, lineAlone, lineBy, lineCount, lineForms, lineFrom, lineNames, lineRead, valueForms}
 use Rattle.script_lines.specs.Readings.{Reading, right}
 use Rattle.script_lines.proofs.Followed.{empty, there, letter}
 
@@ -75,16 +75,16 @@ module _ (what : ℕ) (text : List ℕ) where
 
 -- a line by its first word
 module _ (line : List ℕ) (from to : ℕ) (f : Found line line from to) where
-  pub blank : from ≡ to → lineAlone 0 ≡ lineOf line
-  unfolding lineOf
+  pub blank : from ≡ to → lineAlone 0 ≡ lineRead line
+  unfolding lineRead
   blank e = rw (empty line line from to f e)
 
   module _ (n : from ≡ to → ⊥) where
     some : from < to
     some = omega (arith, n, f .order)
 
-    pub comment : getD line from 0 ≡ 35 → lineAlone 0 ≡ lineOf line
-    unfolding lineOf
+    pub comment : getD line from 0 ≡ 35 → lineAlone 0 ≡ lineRead line
+    unfolding lineRead
     comment e = rw (there line line from to f n, eq-eqb (getD (wordOf (fromWord line)) 0 0) 35 (sym (letter line line from to f some) ∙ e))
 
     module _ (k : getD line from 0 ≡ 35 → ⊥) (p : ℕ) (place : p ≡ placeIn lineNames (take (to - from) (drop from line))) where
@@ -94,8 +94,8 @@ module _ (line : List ℕ) (from to : ℕ) (f : Found line line from to) where
       placed : p ≡ placeIn lineNames (wordOf (fromWord line))
       placed = place ∙ ap (placeIn lineNames) (f .word)
 
-      pub known : p < lineCount → lineBy p (drop to line) ≡ lineOf line
-      unfolding lineOf
+      pub known : p < lineCount → lineBy p (drop to line) ≡ lineRead line
+      unfolding lineRead
       known h =
           rw (
             there line line from to f n,
@@ -104,8 +104,8 @@ module _ (line : List ℕ) (from to : ℕ) (f : Found line line from to) where
           )
           (ap₂ lineBy placed (f .past))
 
-      pub unknown : lineCount ≤ p → lineAlone 1 ≡ lineOf line
-      unfolding lineOf
+      pub unknown : lineCount ≤ p → lineAlone 1 ≡ lineRead line
+      unfolding lineRead
       unknown h =
           rw (
             there line line from to f n,

@@ -2,12 +2,12 @@
 use mathlib.Core.Path.{refl}
 use Rattle.text_words.specs.Names.{nthWord, placeIn}
 use Rattle.text_words.specs.Numbers.{numberOf}
-use Rattle.script_lines.specs.Lines.{argumentBy, letterAt, lineBy, lineOf}
+use Rattle.script_lines.specs.Lines.{argumentBy, letterAt, lineBy, lineRead}
 use Rattle.script_lines.specs.Readings.{nameAfter, numberAfter, valueAfter, wrongAfter}
 use Rattle.script_lines.specs.Laws.{LineExamples}
 
 pub examples : LineExamples
-unfolding argumentBy letterAt lineBy lineOf nameAfter nthWord numberAfter numberOf placeIn valueAfter wrongAfter
+unfolding argumentBy letterAt lineBy lineRead nameAfter nthWord numberAfter numberOf placeIn valueAfter wrongAfter
 examples =
     record {
       read = refl;

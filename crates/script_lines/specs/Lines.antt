@@ -113,5 +113,5 @@ lineWith word rest =
     (lineAlone 1)))
 
 -- what a line says
-unfoldable pub lineOf : List ℕ → Line
-lineOf line = lineWith (wordOf (fromWord line)) (pastWord (fromWord line))
+unfoldable pub lineRead : List ℕ → Line
+lineRead line = lineWith (wordOf (fromWord line)) (pastWord (fromWord line))

@@ -18,7 +18,7 @@ ghost use Prim.Native.Nat.{_<_};
 ghost use lib.ListN.{drop};
 ghost use Rattle.text_words.specs.Names.{byteOfNth};
 ghost use Rattle.script_lines.specs.Readings.{readingIn};
-ghost use Rattle.script_lines.specs.Lines.{argumentBy, letterAt, lineAlone, lineBy, lineForms, lineOf, valueForms};
+ghost use Rattle.script_lines.specs.Lines.{argumentBy, letterAt, lineAlone, lineBy, lineForms, lineRead, valueForms};
 
 // The place of a line's name, its arguments, and what is wrong with it.
 pub struct Line {
@@ -146,7 +146,7 @@ fn alone(wrong: u8) -> Line
 }
 
 pub fn parse(line: &[u8]) -> Line
-    ensures { λ r. ⌜ r ≡ lineOf (now (line .entry)) ⌝ }
+    ensures { λ r. ⌜ r ≡ lineRead (now (line .entry)) ⌝ }
 {
     let word = next_word(line, 0);
     let from = word.from;
