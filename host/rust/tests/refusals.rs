@@ -2,7 +2,7 @@
 mod common;
 use common::{S, board_of, changing, fixed};
 use vrc6::records::{EncodedForecast, EncodedLevel, NumberedSettings, PageAt, Peeked, Tick};
-use vrc6::{Board, MemoryLayout, Refusal, Revision, Settings, Vrc6, calls};
+use vrc6::{Board, MemoryLayout, Refusal, Revision, Settings, Vrc6, calls, unless};
 
 fn created(layout: MemoryLayout, fixed: Vec<u8>, changing: Vec<u8>) -> Result<Vrc6, Refusal> {
     Vrc6::new(layout, Settings::default(), fixed, changing)
@@ -30,6 +30,17 @@ fn refused_without_buffers(board: Board) {
     assert_eq!(calls::level(&mut b), EncodedLevel { level: 0.0, name: 0, refusal: 3 });
     assert_eq!(calls::forecast(&mut b), EncodedForecast { clocks: 0, armed: false, refusal: 3 });
     assert_eq!(b, board);
+}
+
+/// A board that was created has no value out of range, so no call on it shows what number 3 becomes.
+#[test]
+fn each_number_is_its_refusal() {
+    let refusals = [Refusal::Limits, Refusal::Lengths, Refusal::Values, Refusal::Zeros];
+    for (number, refusal) in (1..).zip(refusals) {
+        assert_eq!(unless(number, ()), Err(refusal));
+        assert_eq!(refusal as u8, number);
+    }
+    assert_eq!(unless(0, 7), Ok(7));
 }
 
 #[test]
