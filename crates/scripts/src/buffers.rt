@@ -31,22 +31,21 @@ pub fn lent_hash(bytes: &[u8], lent: usize) -> u32 {
     fnv(FNV_START, &bytes[0..n])
 }
 
-// A length that a buffer has room for, or the one that was lent before.
-fn length_of(room: usize, length: u32, before: usize) -> usize {
-    let n = length as usize;
-    if n <= room {
-        return n;
+// How many bytes there are to lend; 0 is the fixed buffer.
+pub fn room_of(buffer: u32) -> usize {
+    if buffer == 0 {
+        return FIXED;
     }
-    before
+    CHANGING
 }
 
-// `lend`: 0 is the fixed buffer.
+// `lend`, of no more bytes than there are.
 fn lend(mut lent: Lent, buffer: u32, length: u32) -> Lent {
     if buffer == 0 {
-        lent.fixed = length_of(FIXED, length, lent.fixed);
+        lent.fixed = length as usize;
         return lent;
     }
-    lent.changing = length_of(CHANGING, length, lent.changing);
+    lent.changing = length as usize;
     lent
 }
 

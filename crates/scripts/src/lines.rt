@@ -3,6 +3,7 @@ use crate::buffers::CHANGING;
 use crate::buffers::FIXED;
 use crate::buffers::lent_by;
 use crate::buffers::lent_hash;
+use crate::buffers::room_of;
 use crate::buffers::set_lent;
 use crate::buffers::within;
 use crate::calls::Played;
@@ -13,6 +14,7 @@ use crate::session::NO_VALUE;
 use crate::session::Session;
 use crate::showing::put_shown;
 use script_lines::Line;
+use script_lines::arguments::TOO_LARGE;
 use script_lines::kinds;
 use script_lines::parse;
 use script_lines::values;
@@ -33,6 +35,9 @@ fn wrong_of(line: Line, made: bool) -> u8 {
     }
     if (line.what == kinds::POKE) & (values::SUM < line.a) {
         return NO_VALUE;
+    }
+    if (line.what == kinds::LEND) & (room_of(line.a) < line.b as usize) {
+        return TOO_LARGE;
     }
     0
 }

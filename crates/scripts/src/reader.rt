@@ -92,7 +92,7 @@ fn read_more(fd: i32, input: &mut [u8], held: usize) -> usize {
     held
 }
 
-// Takes the next line. Each turn reads a byte or more, so the buffer is full when none is left.
+// Takes the next line. A line that fills the buffer is too long. Each turn reads a byte or more, so there are turns enough.
 pub fn next_line(fd: i32, input: &mut [u8; ROOM], given: Reader) -> Reader {
     let mut reader = given;
     let mut turns: usize = ROOM;
@@ -103,6 +103,9 @@ pub fn next_line(fd: i32, input: &mut [u8; ROOM], given: Reader) -> Reader {
             return reader.taking(end);
         }
         let kept = carry(input, reader.next, reader.held);
+        if ROOM <= kept {
+            return reader.too_long();
+        }
         reader.next = 0;
         reader.held = read_more(fd, input, kept);
         if reader.held == kept {

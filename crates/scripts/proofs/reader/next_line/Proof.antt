@@ -27,14 +27,20 @@ returns c = search needs
 carry-requires : tie.Need-carry-requires Inv-loop μ-loop
 carry-requires c κs = search needs
 
+too-long-requires : tie.Need-too-long-requires Inv-loop μ-loop
+too-long-requires c κs = search needs
+
+returns-2 : tie.Need-returns-2 Inv-loop μ-loop
+returns-2 c = search needs
+
 read-more-requires : tie.Need-read-more-requires Inv-loop μ-loop
 read-more-requires c κs = search needs
 
 last-requires : tie.Need-last-requires Inv-loop μ-loop
 last-requires c κs = search needs
 
-returns-2 : tie.Need-returns-2 Inv-loop μ-loop
-returns-2 c = search needs
+returns-3 : tie.Need-returns-3 Inv-loop μ-loop
+returns-3 c = search needs
 
 loop-less : tie.Need-loop-less Inv-loop μ-loop
 loop-less c = search needs
@@ -42,11 +48,11 @@ loop-less c = search needs
 loop-again : tie.Need-loop-again Inv-loop μ-loop
 loop-again c = search needs
 
-too-long-requires : tie.Need-too-long-requires Inv-loop μ-loop
-too-long-requires c κs = search needs
+too-long-requires-2 : tie.Need-too-long-requires-2 Inv-loop μ-loop
+too-long-requires-2 c κs = search needs
 
-returns-3 : tie.Need-returns-3 Inv-loop μ-loop
-returns-3 c = search needs
+returns-4 : tie.Need-returns-4 Inv-loop μ-loop
+returns-4 c = search needs
 
 pub next-line-spec : {M : Type 1} → statement M
 next-line-spec =
@@ -60,10 +66,12 @@ next-line-spec =
     taking-requires
     returns
     carry-requires
+    too-long-requires
+    returns-2
     read-more-requires
     last-requires
-    returns-2
+    returns-3
     loop-less
     loop-again
-    too-long-requires
-    returns-3)
+    too-long-requires-2
+    returns-4)
