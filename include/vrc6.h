@@ -63,10 +63,12 @@ typedef struct {
     uint32_t ciram;    /* 0 to 4,096; 0 means 2,048 */
 } Vrc6MemoryLayout;
 
-/* What a board is made with, beside its memory. */
+/* What a board is made with, beside its memory. With open_bus a CPU read where nothing is there gives the byte that the
+ * bus holds, as a console does, and not 0: see vrc6_cpu_read. Nothing else depends on it. */
 typedef struct {
     uint8_t mirroring; /* 0 to 4, VRC6_VERTICAL to VRC6_FOUR_SCREEN */
     uint8_t revision;  /* VRC6_REVISION_A or VRC6_REVISION_B */
+    uint8_t open_bus;  /* 0 or 1 */
 } Vrc6Settings;
 
 typedef struct {
@@ -118,7 +120,7 @@ typedef struct {
 } Vrc6Audio;
 
 /* A page entry: bits 0 to 29 an offset that runs on from the fixed buffer into the changing one, bit 31 set if the page
- * takes writes, bit 30 clear. The entry 0 shows the page of zeros. */
+ * takes writes, bit 30 clear. The entry 0 means that nothing is there, and shows the page of zeros. */
 typedef struct {
     Vrc6MemoryLayout layout;
     uint32_t prg_pages[64]; /* one for each 1,024 CPU addresses */
@@ -126,6 +128,7 @@ typedef struct {
     Vrc6Banking banking;
     Vrc6Irq irq;
     Vrc6Audio audio;
+    bool open_bus; /* as the settings said; only vrc6_create sets it */
 } Vrc6Board;
 
 /* Whether the interrupt counter ticked. Refused: false. */
@@ -179,11 +182,11 @@ static inline size_t vrc6_changing_length(Vrc6MemoryLayout layout) {
 }
 
 /* Makes a new board in *board, whatever bytes were there, and changes neither buffer.
- * Refused by VRC6_LIMITS, VRC6_LENGTHS, VRC6_VALUES (a mirroring above 4 or a revision above 1) or VRC6_ZEROS. Refused,
- * *board is the zero board: every value is 0. Clock, reset, level and forecast refuse it by VRC6_VALUES. To the other
- * calls it is a board of the layout with all lengths 0: they refuse it by VRC6_LENGTHS, unless the buffers have just 1,024
- * and 2,048 bytes. With such buffers CPU writes from $8000 up refuse it by VRC6_VALUES, and the others take it: it shows
- * the fixed buffer's first page everywhere, and stores nothing. */
+ * Refused by VRC6_LIMITS, VRC6_LENGTHS, VRC6_VALUES (a mirroring above 4, a revision or open_bus above 1) or VRC6_ZEROS.
+ * Refused, *board is the zero board: every value is 0, open_bus too. Clock, reset, level and forecast refuse it by
+ * VRC6_VALUES. To the other calls it is a board of the layout with all lengths 0: they refuse it by VRC6_LENGTHS, unless
+ * the buffers have just 1,024 and 2,048 bytes. With such buffers CPU writes from $8000 up refuse it by VRC6_VALUES, and
+ * the others take it: it shows the fixed buffer's first page everywhere, and stores nothing. */
 uint8_t vrc6_create(Vrc6Board *board, Vrc6MemoryLayout layout, Vrc6Settings settings, const uint8_t *fixed,
                     size_t fixed_len, const uint8_t *changing, size_t changing_len);
 
@@ -194,12 +197,16 @@ Vrc6Tick vrc6_clock(Vrc6Board *board);
 /* The same clock, answered by one number: 1 for a tick, 6 for a refusal (by 3), otherwise 0. */
 uint8_t vrc6_clock_number(Vrc6Board *board);
 
-/* The byte that a CPU address shows. The call leaves board and buffers as they were.
- * Refused by VRC6_LIMITS, VRC6_LENGTHS or VRC6_VALUES (the page entry of the address). */
+/* The byte that a CPU address shows. Nothing is there where the page entry is 0: at $0000 to $5FFF, at $6000 to $7FFF
+ * without PRG RAM or while mode bit 7 is clear, and from $8000 up without PRG ROM. There a board with open_bus gives
+ * bus, the byte that the CPU's bus holds from before, and a board without it the byte of the fixed buffer's first page,
+ * which creation wants 0. Elsewhere bus changes nothing. The call leaves board and buffers as they were.
+ * Refused by VRC6_LIMITS, VRC6_LENGTHS or VRC6_VALUES (the page entry of the address): the byte is 0 then, not bus. */
 Vrc6Peeked vrc6_cpu_read(Vrc6Board *board, const uint8_t *fixed, size_t fixed_len, const uint8_t *changing,
-                         size_t changing_len, uint16_t addr);
+                         size_t changing_len, uint16_t addr, uint8_t bus);
 
-/* The byte that a picture address shows, by its low 14 bits. As vrc6_cpu_read. */
+/* The byte that a picture address shows, by its low 14 bits, with open_bus as without it. The call leaves board and
+ * buffers as they were. Refused as vrc6_cpu_read is. */
 Vrc6Peeked vrc6_picture_read(Vrc6Board *board, const uint8_t *fixed, size_t fixed_len, const uint8_t *changing,
                              size_t changing_len, uint16_t addr);
 
@@ -243,9 +250,10 @@ VRC6_AT(Vrc6MemoryLayout, chr_writable, 8);
 VRC6_AT(Vrc6MemoryLayout, prg_ram, 12);
 VRC6_AT(Vrc6MemoryLayout, ciram, 16);
 
-VRC6_SIZE(Vrc6Settings, 2);
+VRC6_SIZE(Vrc6Settings, 3);
 VRC6_AT(Vrc6Settings, mirroring, 0);
 VRC6_AT(Vrc6Settings, revision, 1);
+VRC6_AT(Vrc6Settings, open_bus, 2);
 
 VRC6_SIZE(Vrc6Banking, 17);
 VRC6_AT(Vrc6Banking, banking_mode, 0);
@@ -290,13 +298,14 @@ VRC6_AT(Vrc6Audio, saw, 20);
 VRC6_AT(Vrc6Audio, halt, 30);
 VRC6_AT(Vrc6Audio, out, 32);
 
-VRC6_SIZE(Vrc6Board, 404);
+VRC6_SIZE(Vrc6Board, 408);
 VRC6_AT(Vrc6Board, layout, 0);
 VRC6_AT(Vrc6Board, prg_pages, 20);
 VRC6_AT(Vrc6Board, chr_pages, 276);
 VRC6_AT(Vrc6Board, banking, 340);
 VRC6_AT(Vrc6Board, irq, 358);
 VRC6_AT(Vrc6Board, audio, 368);
+VRC6_AT(Vrc6Board, open_bus, 404);
 
 VRC6_SIZE(Vrc6Tick, 2);
 VRC6_AT(Vrc6Tick, refusal, 1);

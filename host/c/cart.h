@@ -21,6 +21,9 @@ enum {
 /* Marks a page entry that takes writes. */
 #define WRITABLE UINT32_C(0x80000000)
 
+/* What the bus holds whenever a program reads: no byte of the cartridge is this one. */
+#define BUS 0xA5
+
 static const Vrc6MemoryLayout cart = {
     .prg_rom = PRG_ROM, .chr = CHR, .chr_writable = false, .prg_ram = PRG_RAM, .ciram = CIRAM};
 
@@ -36,13 +39,13 @@ static inline void insert_cart(void) {
     memset(changing, 0x5A, sizeof changing);
 }
 
-static inline Vrc6Settings settings_of(int mirroring, int revision) {
-    Vrc6Settings settings = {.mirroring = (uint8_t)mirroring, .revision = (uint8_t)revision};
-    return settings;
+static inline uint8_t make_with(Vrc6Board *board, Vrc6Settings settings) {
+    return vrc6_create(board, cart, settings, fixed, FIXED, changing, CHANGING);
 }
 
 static inline uint8_t make(Vrc6Board *board) {
-    return vrc6_create(board, cart, settings_of(VRC6_VERTICAL, VRC6_REVISION_A), fixed, FIXED, changing, CHANGING);
+    Vrc6Settings settings = {.mirroring = VRC6_VERTICAL, .revision = VRC6_REVISION_A, .open_bus = 0};
+    return make_with(board, settings);
 }
 
 static inline uint8_t cpu_write(Vrc6Board *board, uint16_t addr, uint8_t val) {
@@ -50,7 +53,7 @@ static inline uint8_t cpu_write(Vrc6Board *board, uint16_t addr, uint8_t val) {
 }
 
 static inline Vrc6Peeked cpu_read(Vrc6Board *board, uint16_t addr) {
-    return vrc6_cpu_read(board, fixed, FIXED, changing, CHANGING, addr);
+    return vrc6_cpu_read(board, fixed, FIXED, changing, CHANGING, addr, BUS);
 }
 
 static inline Vrc6Peeked picture_read(Vrc6Board *board, uint16_t addr) {

@@ -57,6 +57,29 @@ static void pages(void) {
     }
 }
 
+/* With open_bus a CPU read through the entry 0 gives the bus byte. Through other entries, and on the picture side, it
+ * makes no difference. */
+static void bus(void) {
+    Vrc6Board open = made;
+    open.open_bus = true;
+    SET(made, open_bus, true, cpu_read(&b, 0x6000).byte, BUS);
+    SET(made, open_bus, false, cpu_read(&b, 0x6000).byte, 0);
+    for (uint32_t i = 0; i < 64; i++) {
+        uint16_t addr = (uint16_t)(1024 * i + 5);
+        SET(open, prg_pages[i], 0, cpu_read(&b, addr).byte, BUS);
+        SET(made, prg_pages[i], 0, cpu_read(&b, addr).byte, 0);
+        SET(open, prg_pages[i], 1, cpu_read(&b, addr).refusal, VRC6_VALUES);
+        SET(open, prg_pages[i], 1024 * 78, cpu_read(&b, addr).byte, 77);
+        SET(open, prg_pages[i], WRITABLE | FIXED, cpu_read(&b, addr).byte, 0x5A);
+    }
+    for (uint32_t i = 0; i < 16; i++) {
+        uint16_t addr = (uint16_t)(1024 * i + 5);
+        SET(open, chr_pages[i], 0, picture_read(&b, addr).byte, 0);
+        SET(open, chr_pages[i], 0, page_view(&b, addr).offset, 0);
+        SET(open, chr_pages[i], 1024 * 78, picture_read(&b, addr).byte, 77);
+    }
+}
+
 /* A write to $8000 or $C000 rebuilds all entries from the banking values that it finds. */
 static void banking(void) {
     SET(made, banking.banking_mode, 0x80, WRITTEN(0x8000, 0, prg_pages[24]), WRITABLE | FIXED);
@@ -166,6 +189,7 @@ int main(void) {
     expect("create", make(&made), VRC6_OK);
     layout();
     pages();
+    bus();
     banking();
     interrupt();
     pulses();

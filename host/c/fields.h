@@ -46,6 +46,7 @@ static const Field fields[] = {
     FIELD(audio.saw.freq_shift),
     FIELD(audio.halt),
     FIELD(audio.out),
+    FIELD(open_bus),
 };
 
 enum { FIELDS = sizeof fields / sizeof fields[0] };

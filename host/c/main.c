@@ -34,6 +34,7 @@ static uint32_t run_to_interrupt(uint32_t *ticks) {
 
 static void banks(void) {
     show_cpu("created", 0xE000);
+    show_cpu("PRG RAM off, 165 on the bus", 0x6123);
     write_register(0x8000, 3);
     show_cpu("first PRG number 3", 0x8000);
     write_register(0xB003, 0xA0);
@@ -82,7 +83,8 @@ static void pages(void) {
 int main(void) {
     insert_cart();
     printf("fixed %zu bytes, changing %zu bytes\n", vrc6_fixed_length(cart), vrc6_changing_length(cart));
-    accepted("create", make(&board));
+    Vrc6Settings settings = {.mirroring = VRC6_VERTICAL, .revision = VRC6_REVISION_A, .open_bus = 1};
+    accepted("create", make_with(&board, settings));
     banks();
     interrupt();
     sound();

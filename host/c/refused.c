@@ -25,7 +25,7 @@ static void refused(const char *call, int number, int wanted) {
 /* The calls that take buffers. */
 static void all_with_buffers(size_t fixed_len, size_t changing_len, uint16_t addr, int wanted) {
     remember();
-    Vrc6Peeked cpu = vrc6_cpu_read(&board, fixed, fixed_len, changing, changing_len, addr);
+    Vrc6Peeked cpu = vrc6_cpu_read(&board, fixed, fixed_len, changing, changing_len, addr, BUS);
     refused("cpu_read", cpu.refusal, wanted);
     expect("cpu_read, byte", cpu.byte, 0);
     Vrc6Peeked picture = vrc6_picture_read(&board, fixed, fixed_len, changing, changing_len, addr);
@@ -37,6 +37,14 @@ static void all_with_buffers(size_t fixed_len, size_t changing_len, uint16_t add
     expect("page_view, changing", page.changing, 0);
     refused("picture_write", vrc6_picture_write(&board, fixed, fixed_len, changing, changing_len, addr, 1), wanted);
     refused("cpu_write", vrc6_cpu_write(&board, fixed, fixed_len, changing, changing_len, addr, 1), wanted);
+}
+
+/* The same where nothing is there and where ROM is, without open_bus and with it: a refused read gives no bus byte. */
+static void all_with_buffers_and_bus(size_t fixed_len, size_t changing_len, int wanted) {
+    for (int i = 0; i < 4; i++) {
+        board.open_bus = i & 1;
+        all_with_buffers(fixed_len, changing_len, i & 2 ? 0x8000 : 0x6000, wanted);
+    }
 }
 
 /* The calls that take none. */
@@ -62,7 +70,7 @@ static void wrong_lengths(void) {
                                     {FIXED, CHANGING - 1}, {FIXED, CHANGING + 1}, {FIXED, 0}};
     make(&board);
     for (size_t i = 0; i < sizeof off / sizeof off[0]; i++)
-        all_with_buffers(off[i][0], off[i][1], 0x8000, VRC6_LENGTHS);
+        all_with_buffers_and_bus(off[i][0], off[i][1], VRC6_LENGTHS);
 }
 
 static void layouts_above_limits(void) {
@@ -71,9 +79,9 @@ static void layouts_above_limits(void) {
     for (int i = 0; i < 4; i++) {
         make(&board);
         *lengths[i] = limits[i] + 1;
-        all_with_buffers(FIXED, CHANGING, 0x8000, VRC6_LIMITS);
+        all_with_buffers_and_bus(FIXED, CHANGING, VRC6_LIMITS);
         *lengths[i] = UINT32_MAX;
-        all_with_buffers(FIXED, CHANGING, 0x8000, VRC6_LIMITS);
+        all_with_buffers_and_bus(FIXED, CHANGING, VRC6_LIMITS);
     }
 }
 
@@ -89,7 +97,8 @@ static void garbage(uint32_t *seed) {
                            &board.irq.enabled_after_ack,    &board.irq.cycle_mode,
                            &board.audio.pulse1.enabled,     &board.audio.pulse1.ignore_duty,
                            &board.audio.pulse2.enabled,     &board.audio.pulse2.ignore_duty,
-                           &board.audio.saw.enabled,        &board.audio.halt};
+                           &board.audio.saw.enabled,        &board.audio.halt,
+                           &board.open_bus};
     for (size_t i = 0; i < sizeof bools / sizeof bools[0]; i++) *(uint8_t *)bools[i] &= 1;
 }
 
@@ -107,11 +116,10 @@ static void garbage_boards(void) {
 }
 
 /* A refused creation, in a room of any bytes. */
-static void not_created(Vrc6MemoryLayout layout, int mirroring, int revision, size_t fixed_len, int wanted) {
+static void not_created(Vrc6MemoryLayout layout, Vrc6Settings settings, size_t fixed_len, int wanted) {
     static const uint8_t zeros[sizeof board];
     memset(&board, 0xEE, sizeof board);
     remember();
-    Vrc6Settings settings = settings_of(mirroring, revision);
     uint8_t number = vrc6_create(&board, layout, settings, fixed, fixed_len, changing, CHANGING);
     expect("create", number, wanted);
     for (int i = 0; i < FIELDS; i++)
@@ -122,11 +130,14 @@ static void not_created(Vrc6MemoryLayout layout, int mirroring, int revision, si
     all_with_buffers(FIXED, CHANGING, 0x8000, VRC6_LENGTHS);
 }
 
-/* The zero board is one of the layout with all lengths 0, and shows the first page of such buffers. */
+/* The zero board is one of the layout with all lengths 0. It shows the first page of such buffers, and no bus byte. */
 static void zero_board(void) {
     memset(&board, 0, sizeof board);
-    Vrc6Peeked at = vrc6_cpu_read(&board, fixed, 1024, changing, 2048, 0x8000);
+    fixed[5] = 9;
+    Vrc6Peeked at = vrc6_cpu_read(&board, fixed, 1024, changing, 2048, 0x8005, BUS);
     expect("cpu_read of the zero board", at.refusal, VRC6_OK);
+    expect("cpu_read of the zero board, byte", at.byte, 9);
+    fixed[5] = 0;
     remember();
     refused("cpu_write", vrc6_cpu_write(&board, fixed, 1024, changing, 2048, 0x8000, 1), VRC6_VALUES);
     refused("cpu_write to no page", vrc6_cpu_write(&board, fixed, 1024, changing, 2048, 0x6000, 1), VRC6_OK);
@@ -134,32 +145,39 @@ static void zero_board(void) {
 }
 
 static void refused_creations(void) {
+    /* Settings that creation takes, with open_bus: the zero board must be without. */
+    static const Vrc6Settings open = {.mirroring = VRC6_FOUR_SCREEN, .revision = VRC6_REVISION_B, .open_bus = 1};
     Vrc6MemoryLayout long_prg = cart, long_chr = cart, long_ram = cart, long_ciram = cart;
     long_prg.prg_rom = 262145;
     long_chr.chr = 262145;
     long_ram.prg_ram = 8193;
     long_ciram.ciram = 4097;
-    not_created(long_prg, 0, 0, FIXED, VRC6_LIMITS);
-    not_created(long_chr, 0, 0, FIXED, VRC6_LIMITS);
-    not_created(long_ram, 0, 0, FIXED, VRC6_LIMITS);
-    not_created(long_ciram, 0, 0, FIXED, VRC6_LIMITS);
-    not_created(cart, 0, 0, FIXED - 1, VRC6_LENGTHS);
-    not_created(cart, 0, 0, 0, VRC6_LENGTHS);
-    for (int n = 5; n < 256; n += 2) not_created(cart, n, 0, FIXED, VRC6_VALUES);
-    for (int n = 2; n < 256; n += 2) not_created(cart, 0, n, FIXED, VRC6_VALUES);
+    not_created(long_prg, open, FIXED, VRC6_LIMITS);
+    not_created(long_chr, open, FIXED, VRC6_LIMITS);
+    not_created(long_ram, open, FIXED, VRC6_LIMITS);
+    not_created(long_ciram, open, FIXED, VRC6_LIMITS);
+    not_created(cart, open, FIXED - 1, VRC6_LENGTHS);
+    not_created(cart, open, 0, VRC6_LENGTHS);
+    for (int n = 5; n < 256; n += 2) not_created(cart, (Vrc6Settings){.mirroring = (uint8_t)n}, FIXED, VRC6_VALUES);
+    for (int n = 2; n < 256; n += 2) not_created(cart, (Vrc6Settings){.revision = (uint8_t)n}, FIXED, VRC6_VALUES);
+    for (int n = 2; n < 256; n++) not_created(cart, (Vrc6Settings){.open_bus = (uint8_t)n}, FIXED, VRC6_VALUES);
     for (int at = 0; at < 1024; at += 93) {
         fixed[at] = 1;
-        not_created(cart, 0, 0, FIXED, VRC6_ZEROS);
+        not_created(cart, open, FIXED, VRC6_ZEROS);
         fixed[at] = 0;
     }
     /* The first failing condition gives the number. */
+    static const Vrc6Settings unnamed[] = {
+        {.mirroring = 9, .open_bus = 1}, {.revision = 2, .open_bus = 1}, {.open_bus = 2}, {.open_bus = 255}};
     fixed[1023] = 1;
-    not_created(long_prg, 9, 0, FIXED - 1, VRC6_LIMITS);
-    not_created(cart, 9, 0, FIXED - 1, VRC6_LENGTHS);
-    not_created(cart, 9, 0, FIXED, VRC6_VALUES);
-    not_created(cart, 4, 1, FIXED, VRC6_ZEROS);
+    for (size_t i = 0; i < sizeof unnamed / sizeof unnamed[0]; i++) {
+        not_created(long_prg, unnamed[i], FIXED - 1, VRC6_LIMITS);
+        not_created(cart, unnamed[i], FIXED - 1, VRC6_LENGTHS);
+        not_created(cart, unnamed[i], FIXED, VRC6_VALUES);
+    }
+    not_created(cart, open, FIXED, VRC6_ZEROS);
     fixed[1023] = 0;
-    expect("create", make(&board), VRC6_OK);
+    expect("create", make_with(&board, open), VRC6_OK);
 }
 
 int main(void) {

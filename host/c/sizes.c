@@ -25,7 +25,7 @@ static void created_whole(void) {
 }
 
 /* Creation from a layout whose lengths all differ, and are no whole pages. */
-static void created_values(bool chr_writable) {
+static void created_values(bool chr_writable, bool open_bus) {
     static uint8_t ram[2048 + 66560 + 3072];
     Vrc6MemoryLayout layout = {
         .prg_rom = PRG_ROM - 1000, .chr = 65537, .chr_writable = chr_writable, .prg_ram = 2048, .ciram = 3000};
@@ -34,7 +34,7 @@ static void created_values(bool chr_writable) {
     expect("fixed length", (int64_t)vrc6_fixed_length(layout), (int64_t)fixed_len);
     expect("changing length", (int64_t)vrc6_changing_length(layout), (int64_t)changing_len);
     Vrc6Board b;
-    Vrc6Settings settings = settings_of(VRC6_HORIZONTAL, VRC6_REVISION_B);
+    Vrc6Settings settings = {.mirroring = VRC6_HORIZONTAL, .revision = VRC6_REVISION_B, .open_bus = open_bus};
     uint8_t refusal = vrc6_create(&b, layout, settings, fixed, fixed_len, ram, changing_len);
     expect("create", refusal, VRC6_OK);
     expect("layout.prg_rom", b.layout.prg_rom, layout.prg_rom);
@@ -46,6 +46,7 @@ static void created_values(bool chr_writable) {
     expect("banking.revision_b", b.banking.revision_b, 1);
     expect("chr_pages[0]", b.chr_pages[0], chr_writable ? (int64_t)(WRITABLE | (fixed_len + 2048)) : CHR_START);
     expect("audio.saw.timer", b.audio.saw.timer, 1);
+    expect("open_bus", b.open_bus, open_bus);
 }
 
 /* A call, and the fields that it changes, with the value that each has then. A field of more than four bytes has to
@@ -68,7 +69,7 @@ typedef struct {
 #define FLOAT_15 0x41700000
 #define FLOAT_5 0x40A00000
 
-/* From a new board with four screens, whose nametable numbers are 0 1 2 3. */
+/* From a new board with four screens, whose nametable numbers are 0 1 2 3. It has open_bus, which every call keeps. */
 static const Step bank_steps[] = {
     {0x8000, 3, {TO(banking.prg_banks[0], 3), PAGES(prg_pages)}},
     {0xC000, 5, {TO(banking.prg_banks[1], 5), PAGES(prg_pages)}},
@@ -162,9 +163,9 @@ static void compare(Step s, const Room *before, Room *after) {
 static void walk(const Step *steps, size_t n) {
     static Room room, before, after;
     memset(&room, 0xC3, sizeof room);
-    Vrc6Settings settings = settings_of(VRC6_FOUR_SCREEN, VRC6_REVISION_A);
-    uint8_t refusal = vrc6_create(&room.board, cart, settings, fixed, FIXED, changing, CHANGING);
-    expect("create", refusal, VRC6_OK);
+    Vrc6Settings settings = {.mirroring = VRC6_FOUR_SCREEN, .revision = VRC6_REVISION_A, .open_bus = 1};
+    expect("create", make_with(&room.board, settings), VRC6_OK);
+    expect("open_bus", room.board.open_bus, 1);
     for (size_t i = 0; i < n; i++) {
         memcpy(&before, &room, sizeof room);
         play(&room.board, steps[i]);
@@ -178,8 +179,8 @@ static void walk(const Step *steps, size_t n) {
 int main(void) {
     insert_cart();
     created_whole();
-    created_values(false);
-    created_values(true);
+    created_values(false, true);
+    created_values(true, false);
     WALK(bank_steps);
     WALK(irq_steps);
     WALK(sound_steps);

@@ -22,6 +22,8 @@ pub struct Options {
 
 pub struct Player {
     options: Options,
+    /// The setting of boards that are created from here on.
+    open_bus: bool,
     rig: Option<Rig>,
     last: Answer,
     pub tally: Tally,
@@ -29,7 +31,7 @@ pub struct Player {
 
 impl Player {
     pub fn new(options: Options) -> Self {
-        Player { options, rig: None, last: Answer::default(), tally: Tally::default() }
+        Player { options, open_bus: false, rig: None, last: Answer::default(), tally: Tally::default() }
     }
 
     /// Plays the line of a number, and puts what it prints behind the text.
@@ -39,6 +41,7 @@ impl Player {
             Line::Heading(text) => {
                 let _ = writeln!(o, "\n{text}");
             }
+            Line::OpenBus(on) => self.open_bus = *on,
             Line::Create(setup, bytes) => self.create(*setup, bytes, o),
             Line::Poke(place, v) => self.poke(place, *v),
             Line::Lend => self.rig = None,
@@ -49,7 +52,7 @@ impl Player {
 
     fn create(&mut self, s: Setup, bytes: &Bytes, o: &mut String) {
         self.last = Answer::default();
-        self.rig = match bytes {
+        let rig = match bytes {
             _ if !s.within_limits() => None,
             Bytes::Zeros => Some(Rig::over(s, |_| 0)),
             Bytes::Filled => Some(Rig::new(s)),
@@ -58,6 +61,7 @@ impl Player {
                 lent.map(|r| Rig::over(s, |o| r.byte(o)))
             }
         };
+        self.rig = rig.map(|r| Rig { open_bus: self.open_bus, ..r });
         if let Some(r) = self.rig.as_ref().filter(|_| self.options.answers) {
             let (fixed, changing) = r.lengths();
             let _ = writeln!(o, "N {fixed} {changing}");
@@ -89,10 +93,8 @@ impl Player {
 /// Makes a call, keeps what it answers, and writes its answer.
 fn make(r: &mut Rig, call: &Call, a: &mut Answer, o: &mut String, least: bool) {
     let _ = match *call {
-        Call::Read(addr) => {
-            a.byte = r.cpu_read(addr);
-            writeln!(o, "R {:02x}", a.byte)
-        }
+        Call::Read(addr) => read(r, 'R', addr, 0, a, o),
+        Call::ReadBus(addr, bus) => read(r, 'B', addr, bus, a, o),
         Call::Write(addr, v) => {
             r.cpu_write(addr, v);
             writeln!(o, "W")
@@ -123,6 +125,11 @@ fn make(r: &mut Rig, call: &Call, a: &mut Answer, o: &mut String, least: bool) {
             Ok(())
         }
     };
+}
+
+fn read(r: &Rig, name: char, addr: u16, bus: u8, a: &mut Answer, o: &mut String) -> std::fmt::Result {
+    a.byte = r.bus_read(addr, bus);
+    writeln!(o, "{name} {:02x}", a.byte)
 }
 
 fn clock(r: &mut Rig, n: u32, a: &mut Answer, o: &mut String) -> std::fmt::Result {

@@ -26,6 +26,7 @@ pub enum Bytes {
 
 pub enum Call {
     Read(u16),
+    ReadBus(u16, u8),
     Write(u16, u8),
     PictureRead(u16),
     PictureWrite(u16, u8),
@@ -42,6 +43,7 @@ pub enum Call {
 pub enum Line<'a> {
     Nothing,
     Heading(&'a str),
+    OpenBus(bool),
     Create(Setup, Bytes),
     Poke(Place, u32),
     Lend,
@@ -212,6 +214,7 @@ fn lend<'a>(w: &mut Words) -> Result<Line<'a>, Wrong> {
 fn call(name: &str, w: &mut Words) -> Result<Call, Wrong> {
     Ok(match name {
         "r" | "read" => Call::Read(w.address()?),
+        "b" | "read-bus" => Call::ReadBus(w.address()?, w.byte()?),
         "w" | "write" => Call::Write(w.address()?, w.byte()?),
         "p" | "picture-read" => Call::PictureRead(w.address()?),
         "q" | "picture-write" => Call::PictureWrite(w.address()?, w.byte()?),
@@ -234,6 +237,7 @@ pub fn parse(line: &str) -> Result<Line<'_>, Wrong> {
         Err(_) => return Ok(Line::Nothing),
         Ok(first) if first.starts_with('#') => return Ok(Line::Nothing),
         Ok("=") => return Ok(Line::Heading(line.trim_matches(is_blank)[1..].trim_start_matches(is_blank))),
+        Ok("o" | "open-bus") => Line::OpenBus(w.second("no", "yes")?),
         Ok("s") => Line::Create(settings(&mut w, LAYOUT_S)?, Bytes::Zeros),
         Ok("n") => Line::Create(filled(&mut w)?, Bytes::Filled),
         Ok("create") => Line::Create(layout(&mut w)?, Bytes::AsTheyAre),

@@ -101,6 +101,8 @@ pub enum Place {
     /// A length of the layout, which the original doesn't keep.
     Layout,
     Board(&'static Value<Vrc6>),
+    /// The setting, which the driver keeps.
+    OpenBus,
     Irq(&'static Value<VrcIrq>),
     Pulse1(&'static Value<Pulse>),
     Pulse2(&'static Value<Pulse>),
@@ -114,7 +116,10 @@ pub enum Place {
 impl Place {
     /// The values whose name is one word.
     pub fn single(name: &str) -> Option<Self> {
-        find(&BOARD, name).map(Place::Board).or_else(|| find(&IRQ, name).map(Place::Irq))
+        match name {
+            "open-bus" => Some(Place::OpenBus),
+            _ => find(&BOARD, name).map(Place::Board).or_else(|| find(&IRQ, name).map(Place::Irq)),
+        }
     }
     /// A field of a channel.
     pub fn channel(name: &str, field: &str) -> Option<Self> {
@@ -133,6 +138,7 @@ impl Place {
             Place::PictureEntry(a) => r.picture_entry(*a),
             Place::Layout => return None,
             Place::Board(v) => (v.get)(&r.b),
+            Place::OpenBus => r.open_bus.into(),
             Place::Irq(v) => (v.get)(&r.b.irq),
             Place::Pulse1(v) => (v.get)(&r.b.audio.pulse1),
             Place::Pulse2(v) => (v.get)(&r.b.audio.pulse2),
@@ -150,6 +156,10 @@ impl Place {
             Place::PictureEntry(a) => r.set_picture_entry(*a, v),
             Place::Layout => false,
             Place::Board(value) => put(value, &mut r.b, v),
+            Place::OpenBus => {
+                r.open_bus = v != 0;
+                true
+            }
             Place::Irq(value) => put(value, &mut r.b.irq, v),
             Place::Pulse1(value) => put(value, &mut r.b.audio.pulse1, v),
             Place::Pulse2(value) => put(value, &mut r.b.audio.pulse2, v),

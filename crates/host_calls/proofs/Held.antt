@@ -20,6 +20,9 @@ use Rattle.irq.proofs.VrcIrq.Laws as I′
 use Rattle.audio.specs.declared.Audio.{Audio}
 use Rattle.audio.proofs.Audio as S
 use Rattle.audio.proofs.Audio.Laws as S′
+use Rattle.memory_access.specs.declared.Peeked.{Peeked}
+use Rattle.memory_access.proofs.Peeked as T
+use Rattle.memory_access.proofs.Peeked.Laws as T′
 use Rattle.memory_tables.specs.Paging.{Side, cpu, picture, entryCount}
 use Rattle.vrc6.specs.declared.board.Board.{Board}
 use Rattle.vrc6.specs.Boards.{table, entryOf}
@@ -39,6 +42,9 @@ irqField = 4
 
 abbrev pub audioField : ℕ
 audioField = 5
+
+abbrev pub openField : ℕ
+openField = 6
 
 abbrev pub revisionField : ℕ
 revisionField = 5
@@ -61,6 +67,13 @@ vI = LL.val I.the-type I′.the-laws
 
 abbrev pub vS : Audio → Val
 vS = LL.val S.the-type S′.the-laws
+
+-- the machine value of a read's answer, and what is known of it there
+abbrev pub vT : Peeked → Val
+vT = LL.val T.the-type T′.the-laws
+
+pub answer-of : (r : Peeked) (w : Val) → Is T.the-row r (w ∷ []) → Is T.the-row r (vT r ∷ [])
+answer-of r w is = LL.owes T.the-type T′.the-laws r (LL.owed T.the-type T′.the-laws r _ is)
 
 module _ (h : Board) (was : Is B.the-row h (vB h ∷ [])) where
   pub layout-of : Is L.the-row (h .layout) (vL (h .layout) ∷ [])

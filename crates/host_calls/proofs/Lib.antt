@@ -5,7 +5,7 @@ pub mod Slots
 pub mod Walk
 pub mod StoreWalk
 pub mod BufferWalk
-pub mod ReadWalk
+pub mod EntryWalk
 pub mod Answers
 pub mod Parts
 pub mod Writes

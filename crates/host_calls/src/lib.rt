@@ -23,7 +23,7 @@ use vrc6_parts::reads::picture_peek;
 use vrc6_parts::writes::reached;
 use vrc6_parts::writes::write_byte;
 ghost use mathlib.Core.Path.{_≡_};
-ghost use Rattle.memory_tables.specs.Paging.{cpu, picture};
+ghost use Rattle.vrc6_parts.specs.Reads.{byCpu, byPicture};
 ghost use Rattle.vrc6.specs.Boards.{heldBy};
 ghost use Rattle.vrc6.specs.Calls.{byteRead, clock, cpuWrite, cpuWriteLeft, forecast, level, pictureWrite, pictureWriteLeft, reset};
 ghost use Rattle.host_creation.specs.Numbers.{createdBy};
@@ -107,20 +107,23 @@ pub extern "C" fn vrc6_page_view(
     page_at(b, fixed, changing, addr)
 }
 
+// bus is the byte that the bus last held: with the setting on, a read where nothing is there hands it back.
 #[no_mangle]
 pub extern "C" fn vrc6_cpu_read(
     board: &mut Board,
     fixed: &[u8],
     changing: &[u8],
     addr: u16,
+    bus: u8,
 ) -> Peeked
     ensures { λ r. ⌜ (now (board .exit) ≡ now (board .entry))
-        × (r ≡ byteAnswer (byteRead cpu (heldBy (now (board .entry)) (now (fixed .entry)) (now (changing .entry))) addr)) ⌝ }
+        × (r ≡ byteAnswer (byteRead (byCpu bus) (heldBy (now (board .entry)) (now (fixed .entry)) (now (changing .entry))) addr)) ⌝ }
 {
     let slot = (addr / 1024 % 64) as usize;
     let page = board.prg_pages[slot];
     let layout = board.layout;
-    cpu_peek(layout, page, fixed, changing, addr)
+    let open_bus = board.open_bus;
+    cpu_peek(layout, page, open_bus, fixed, changing, addr, bus)
 }
 
 #[no_mangle]
@@ -131,7 +134,7 @@ pub extern "C" fn vrc6_picture_read(
     addr: u16,
 ) -> Peeked
     ensures { λ r. ⌜ (now (board .exit) ≡ now (board .entry))
-        × (r ≡ byteAnswer (byteRead picture (heldBy (now (board .entry)) (now (fixed .entry)) (now (changing .entry))) addr)) ⌝ }
+        × (r ≡ byteAnswer (byteRead byPicture (heldBy (now (board .entry)) (now (fixed .entry)) (now (changing .entry))) addr)) ⌝ }
 {
     let slot = (addr / 1024 % 16) as usize;
     let page = board.chr_pages[slot];

@@ -1,6 +1,6 @@
 -- Creation by numbers: its answer from the refusal number, and the law of named numbers. Assumes nothing.
 use mathlib.Core.Path.{_≡_, refl, sym, ap, _∙_}
-use mathlib.Core.Bool.{Bool, true, false, cond}
+use mathlib.Core.Bool.{Bool, true, false, not}
 use mathlib.Core.List.{List, [], _∷_, _++_}
 use Prim.Native.Nat.{ℕ, zero, suc, _≤_}
 use native.Mathlib.Omega.{arith}
@@ -109,11 +109,24 @@ revision-named : (r : Revision) → leb (flag (isB r)) 1 ≡ true
 revision-named A = refl
 revision-named B = refl
 
+bus-named : (b : Bool) → leb (flag b) 1 ≡ true
+bus-named true = refl
+bus-named false = refl
+
+bus-again : (b : Bool) → not (eqb (flag b) 0) ≡ b
+bus-again true = refl
+bus-again false = refl
+
 all-named : (s : Settings) → settingsNamed (numbersOf s) ≡ true
-all-named s = both (mirroring-named (s .mirroring)) (revision-named (s .revision))
+all-named s = both (both (mirroring-named (s .mirroring)) (revision-named (s .revision))) (bus-named (s .«open_bus»))
 
 again : (s : Settings) → settingsNumbered (numbersOf s) ≡ s
-again s = λ i. record { mirroring = mirroring-again (s .mirroring) i; revision = revision-again (s .revision) i }
+again s =
+    λ i. record {
+      mirroring = mirroring-again (s .mirroring) i;
+      revision = revision-again (s .revision) i;
+      «open_bus» = bus-again (s .«open_bus») i;
+    }
 
 pub create-numbered-law : CreateNumberedLaw
 create-numbered-law c =

@@ -1,8 +1,8 @@
 -- Creation by numbers, since no enum crosses to C (01, The board's calls). Assumes nothing.
-use mathlib.Core.Bool.{Bool, _&&_}
+use mathlib.Core.Bool.{Bool, not, _&&_}
 use mathlib.Core.List.{List, [], _∷_, _++_}
 use Prim.Native.Nat.{ℕ, zero, suc}
-use lib.Dec.{leb}
+use lib.Dec.{eqb, leb}
 use lib.ListN.{length, take}
 use Rattle.base_shared.specs.Refusals.{firstFailing, unless}
 use Rattle.base_shared.specs.Rows.{flag}
@@ -33,21 +33,27 @@ abbrev pub revisionNumbered : ℕ → Revision
 revisionNumbered zero = A
 revisionNumbered (suc n) = B
 
--- the numbers of settings that have these of a mirroring and a revision
+-- the numbers of settings that have these of a mirroring and a revision, and of what was added nothing
 abbrev pub numbered : (mirroring revision : ℕ) → NumberedSettings
-numbered m r = record { mirroring = m; revision = r }
+numbered m r = record { mirroring = m; revision = r; «open_bus» = 0 }
 
--- the settings of numbers (01, The board's calls 1)
+-- the settings of numbers; the bus setting is off by 0, and on by any other (01, The board's calls 1; 02, change 1)
 abbrev pub settingsNumbered : NumberedSettings → Settings
-settingsNumbered n = record { mirroring = mirroringNumbered (n .mirroring); revision = revisionNumbered (n .revision) }
+settingsNumbered n =
+    record {
+      mirroring = mirroringNumbered (n .mirroring);
+      revision = revisionNumbered (n .revision);
+      «open_bus» = not (eqb (n .«open_bus») 0);
+    }
 
--- the numbers of settings (01, The board's calls 1)
+-- the numbers of settings (01, The board's calls 1; 02, change 1)
 abbrev pub numbersOf : Settings → NumberedSettings
-numbersOf s = record { mirroring = mirroringNumber (s .mirroring); revision = flag (isB (s .revision)) }
+numbersOf s =
+    record { mirroring = mirroringNumber (s .mirroring); revision = flag (isB (s .revision)); «open_bus» = flag (s .«open_bus») }
 
--- each number names something: 0 to 4, and 0 or 1
+-- each number names something: 0 to 4, 0 or 1, and 0 or 1
 abbrev pub settingsNamed : NumberedSettings → Bool
-settingsNamed n = leb (n .mirroring) 4 && leb (n .revision) 1
+settingsNamed n = leb (n .mirroring) 4 && leb (n .revision) 1 && leb (n .«open_bus») 1
 
 -- the first failing of 1, 2, 3 and 4; here 3 is a number that names nothing (01, The board's calls 3; 01, The board's calls 4)
 abbrev pub numberedRefusal : MemoryLayout → NumberedSettings → (fixed changing : List ℕ) → ℕ

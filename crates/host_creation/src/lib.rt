@@ -8,20 +8,23 @@ use vrc6_banking::banking::Settings;
 ghost use mathlib.Core.Path.{_≡_};
 ghost use Rattle.host_creation.specs.Numbers.{createdBy, mirroringNumbered, numbered, revisionNumbered, settingsNamed, settingsNumbered};
 
-// The settings of creation by numbers: mirroring 0 to 4, revision 0 for A and 1 for B.
+// The settings of creation by numbers: mirroring 0 to 4, revision 0 for A and 1 for B, bus setting 0 for off and 1 for on.
 #[repr(C)]
 pub struct NumberedSettings {
     pub mirroring: u8,
     pub revision: u8,
+    pub open_bus: u8,
 }
 
 impl NumberedSettings {
+    // The original's board: no open bus.
     pub fn new(mirroring: u8, revision: u8) -> Self
         ensures { λ r. ⌜ r ≡ numbered mirroring revision ⌝ }
     {
         Self {
             mirroring,
             revision,
+            open_bus: 0,
         }
     }
 }
@@ -60,6 +63,7 @@ fn settings_of(numbers: NumberedSettings) -> Settings
     Settings {
         mirroring: mirroring_of(numbers.mirroring),
         revision: revision_of(numbers.revision),
+        open_bus: numbers.open_bus != 0,
     }
 }
 
@@ -67,7 +71,7 @@ fn settings_of(numbers: NumberedSettings) -> Settings
 fn settings_named(numbers: NumberedSettings) -> bool
     ensures { λ r. ⌜ r ≡ settingsNamed numbers ⌝ }
 {
-    (numbers.mirroring <= 4) & (numbers.revision <= 1)
+    (numbers.mirroring <= 4) & (numbers.revision <= 1) & (numbers.open_bus <= 1)
 }
 
 // Create refuses a number that names nothing by 3, after conditions 1 and 2.

@@ -5,4 +5,4 @@ use Rattle.script_calls.specs.Laws.{CallExamples}
 
 pub examples : CallExamples
 unfolding callBy
-examples = record { write-letter = refl; write-word = refl; picture-read = refl; hard = refl; soft = refl }
+examples = record { read = refl; write-letter = refl; write-word = refl; picture-read = refl; hard = refl; soft = refl; read-bus = refl }

@@ -10,7 +10,7 @@ pub fn call_of(what: u8, a: u32, b: u32) -> Call
     let addr = (a % 65536) as u16;
     let val = (b % 256) as u8;
     match what / 2 {
-        0 => Call::CpuRead(addr),
+        0 => Call::CpuRead(addr, 0),
         1 => Call::CpuWrite(addr, val),
         2 => Call::PictureRead(addr),
         3 => Call::PictureWrite(addr, val),
@@ -22,6 +22,7 @@ pub fn call_of(what: u8, a: u32, b: u32) -> Call
             Call::HardReset
         }
         6 => Call::ReadLevel,
-        _ => Call::ReadForecast,
+        7 => Call::ReadForecast,
+        _ => Call::CpuRead(addr, val),
     }
 }

@@ -12,29 +12,29 @@ use Rattle.script_lines.specs.Readings.{Reading, largest, nameAfter, non
 -- ---- names and forms
 -- the names of lines: each call by its letter and its word, then what sets up, shows and expects
 abbrev pub lineNames : List ℕ
-lineNames = codes "R read W write P picture-read Q picture-write V view Z reset L level F forecast C clock N S create G H D lend poke expect ="
+lineNames = codes "R read W write P picture-read Q picture-write V view Z reset L level F forecast B read-bus C clock N S create G H D lend poke expect O open-bus ="
 
 -- how many they are; a line of another number is nothing, a blank line or a comment
 abbrev pub lineCount : ℕ
-lineCount = 28
+lineCount = 32
 
 -- a line's form: a letter for each argument
 abbrev pub lineForms : List ℕ
-lineForms = codes "a a ab ab a a ab ab a a k k - - - - d d ddwddmvx mv ddwddmv - - - ld n n t"
+lineForms = codes "a a ab ab a a ab ab a a k k - - - - ab ab d d ddwddmvx mv ddwddmv - - - ld n n y y t"
 
 -- the names of values: those of the board and its buffers, then what the last call answered, from `view-byte` on
 abbrev pub valueNames : List ℕ
 valueNames =
     codes
-    "entry picture-entry chr nametable fixed changing layout pulse1 pulse2 saw mode prg-16k prg-8k mirroring revision reload counter prescaler pending enabled after-acknowledge cycle halt sum view-byte view-length refusal byte ticks first-tick last-tick interrupt sounding level level-bits forecast untouched kept"
+    "entry picture-entry chr nametable fixed changing layout pulse1 pulse2 saw mode prg-16k prg-8k mirroring revision reload counter prescaler pending enabled after-acknowledge cycle halt sum open-bus view-byte view-length refusal byte ticks first-tick last-tick interrupt sounding level level-bits forecast untouched kept"
 
 -- how many they are
 abbrev pub valueCount : ℕ
-valueCount = 38
+valueCount = 39
 
 -- a value's form: its place, and the number
 abbrev pub valueForms : List ℕ
-valueForms = codes "aq aq dq dq dq dq fq cq cq cq -q -q -q -q -q -q -q -q -q -q -q -q -q -q dq -q -q -q -q -q -q -q -q -q -q -q -q -q"
+valueForms = codes "aq aq dq dq dq dq fq cq cq cq -q -q -q -q -q -q -q -q -q -q -q -q -q -q -q dq -q -q -q -q -q -q -q -q -q -q -q -q -q"
 
 -- the fields of a layout
 abbrev pub layoutFields : List ℕ
@@ -46,7 +46,7 @@ channelFields = codes "enabled volume duty ignore-duty frequency timer step shif
 
 -- ---- arguments
 -- the argument of a letter: a an address, b a byte, x a hexadecimal number, d a decimal one, m a mirroring, w r or w, v a revision,
--- k a reset, l a buffer, n a value's name, f a layout's field, c a channel's field, q a value, t the rest of the line; none otherwise
+-- k a reset, l a buffer, y no or yes, n a value's name, f a layout's field, c a channel's field, q a value, t the rest of the line; none otherwise
 unfoldable pub argumentBy : (letter : ℕ) → Reading → Reading
 argumentBy letter r =
     cond (eqb letter 97) (numberAfter 16 65_535 3 r)
@@ -58,12 +58,13 @@ argumentBy letter r =
     (cond (eqb letter 118) (nameAfter (codes "A B") 2 r)
     (cond (eqb letter 107) (nameAfter (codes "s h soft hard") 4 r)
     (cond (eqb letter 108) (nameAfter (codes "fixed changing") 2 r)
+    (cond (eqb letter 121) (nameAfter (codes "no yes") 2 r)
     (cond (eqb letter 110) (nameAfter valueNames valueCount r)
     (cond (eqb letter 102) (nameAfter layoutFields 5 r)
     (cond (eqb letter 99) (nameAfter channelFields 10 r)
     (cond (eqb letter 113) (valueAfter r)
     (cond (eqb letter 116) (textAfter r)
-    (noneAfter r))))))))))))))
+    (noneAfter r)))))))))))))))
 
 -- the letter of a line's argument behind the first: behind the name of a value those of the value follow
 unfoldable pub letterAt : (what first i : ℕ) → ℕ

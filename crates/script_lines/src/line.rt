@@ -48,11 +48,12 @@ fn argument(line: &[u8], before: Argument, letter: u8) -> Argument
         b'v' => name_after(line, before, b"A B", 2),
         b'k' => name_after(line, before, b"s h soft hard", 4),
         b'l' => name_after(line, before, b"fixed changing", 2),
+        b'y' => name_after(line, before, b"no yes", 2),
         b'n' => name_after(
             line,
             before,
-            b"entry picture-entry chr nametable fixed changing layout pulse1 pulse2 saw mode prg-16k prg-8k mirroring revision reload counter prescaler pending enabled after-acknowledge cycle halt sum view-byte view-length refusal byte ticks first-tick last-tick interrupt sounding level level-bits forecast untouched kept",
-            38,
+            b"entry picture-entry chr nametable fixed changing layout pulse1 pulse2 saw mode prg-16k prg-8k mirroring revision reload counter prescaler pending enabled after-acknowledge cycle halt sum open-bus view-byte view-length refusal byte ticks first-tick last-tick interrupt sounding level level-bits forecast untouched kept",
+            39,
         ),
         b'f' => name_after(line, before, b"prg chr writable ram ciram", 5),
         b'c' => name_after(
@@ -72,7 +73,7 @@ fn letter_of_line(what: usize, i: usize) -> u8
     ensures { λ r. ⌜ r ≡ byteOfNth what i lineForms ⌝ }
 {
     byte_of_nth(
-        b"a a ab ab a a ab ab a a k k - - - - d d ddwddmvx mv ddwddmv - - - ld n n t",
+        b"a a ab ab a a ab ab a a k k - - - - ab ab d d ddwddmvx mv ddwddmv - - - ld n n y y t",
         what,
         i,
     )
@@ -83,7 +84,7 @@ fn letter_of_value(value: usize, i: usize) -> u8
     ensures { λ r. ⌜ r ≡ byteOfNth value i valueForms ⌝ }
 {
     byte_of_nth(
-        b"aq aq dq dq dq dq fq cq cq cq -q -q -q -q -q -q -q -q -q -q -q -q -q -q dq -q -q -q -q -q -q -q -q -q -q -q -q -q",
+        b"aq aq dq dq dq dq fq cq cq cq -q -q -q -q -q -q -q -q -q -q -q -q -q -q -q dq -q -q -q -q -q -q -q -q -q -q -q -q -q",
         value,
         i,
     )
@@ -132,7 +133,7 @@ fn alone(wrong: u8) -> Line
     ensures { λ r. ⌜ r ≡ lineAlone wrong ⌝ }
 {
     Line {
-        what: 28,
+        what: 32,
         a: 0,
         b: 0,
         c: 0,
@@ -158,10 +159,10 @@ pub fn parse(line: &[u8]) -> Line
         return alone(0);
     }
     let what = place_in(
-        b"R read W write P picture-read Q picture-write V view Z reset L level F forecast C clock N S create G H D lend poke expect =",
+        b"R read W write P picture-read Q picture-write V view Z reset L level F forecast B read-bus C clock N S create G H D lend poke expect O open-bus =",
         &line[from..to],
     );
-    if what < 28 {
+    if what < 32 {
         return line_by(line, what, to);
     }
     alone(UNKNOWN_LINE)

@@ -5,6 +5,7 @@ use crate::numbers::HALT;
 use crate::numbers::IRQ;
 use crate::numbers::LAYOUT;
 use crate::numbers::NAMETABLES;
+use crate::numbers::OPEN_BUS;
 use crate::numbers::PICTURE_PAGES;
 use crate::numbers::PULSE1;
 use crate::numbers::PULSE2;
@@ -154,5 +155,6 @@ pub fn board_of(numbers: [u32; COUNT]) -> Board {
         banking: banking_of(numbers),
         irq: irq_of(numbers),
         audio: audio_of(numbers),
+        open_bus: numbers[OPEN_BUS] != 0,
     }
 }

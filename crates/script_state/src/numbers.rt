@@ -10,10 +10,10 @@ use vrc6::Board;
 use vrc6_banking::banking::Banking;
 
 // How many they are.
-pub const COUNT: usize = 141;
+pub const COUNT: usize = 142;
 
 // Where the numbers of each part begin: 64 entries, 16 entries, eight CHR bytes, four nametable numbers, five of the layout, ten of
-// each channel, then from `mode` to `sum` one for each value, in the order of their names (script_lines, `valueNames`).
+// each channel, then from `mode` to `open-bus` one for each value, in the order of their names (script_lines, `valueNames`).
 pub const PICTURE_PAGES: usize = 64;
 
 pub const CHR: usize = 80;
@@ -33,6 +33,8 @@ pub const SINGLE: usize = 127;
 pub const IRQ: usize = 132;
 
 pub const HALT: usize = 139;
+
+pub const OPEN_BUS: usize = 141;
 
 // 1 for true.
 pub fn flag(b: bool) -> u32 {
@@ -176,6 +178,7 @@ pub fn numbers_of(board: Board) -> [u32; COUNT] {
     let none = [0u32; COUNT];
     let layout = layout_numbers(board.layout);
     let irq = irq_numbers(board.irq);
+    let open_bus = [flag(board.open_bus)];
     let cpu = board.prg_pages;
     let picture = board.chr_pages;
     let a = with_cpu_pages(none, cpu);
@@ -183,5 +186,6 @@ pub fn numbers_of(board: Board) -> [u32; COUNT] {
     let c = with_part(b, LAYOUT, &layout);
     let d = with_banking(c, board.banking);
     let e = with_part(d, IRQ, &irq);
-    with_audio(e, board.audio)
+    let f = with_audio(e, board.audio);
+    with_part(f, OPEN_BUS, &open_bus)
 }

@@ -22,11 +22,11 @@ fn place_of(what: u32, at: usize) -> usize {
         values::PULSE1 => PULSE1 + at % 10,
         values::PULSE2 => PULSE2 + at % 10,
         values::SAW => SAW + at % 10,
-        _ => SINGLE + single % 14,
+        _ => SINGLE + single % 15,
     }
 }
 
-// A value of the board, from `entry` to `sum`.
+// A value of the board, from `entry` to `open-bus`.
 pub fn number(numbers: [u32; COUNT], what: u32, at: u32) -> u32 {
     numbers[place_of(what, at as usize) % COUNT]
 }

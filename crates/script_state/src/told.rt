@@ -131,7 +131,9 @@ const SILENT: usize = 6;
 
 const NO_FORECAST: usize = 10;
 
-const CLOCKS: usize = 11;
+const READ_BUS: usize = 11;
+
+const CLOCKS: usize = 12;
 
 // Which form answers a call, by the place of its name.
 fn form_of(what: u8, told: Told) -> usize {
@@ -143,7 +145,8 @@ fn form_of(what: u8, told: Told) -> usize {
             }
             NO_FORECAST - 1
         }
-        8 => CLOCKS,
+        8 => READ_BUS,
+        9 => CLOCKS,
         _ => (what / 2) as usize,
     }
 }
@@ -154,7 +157,7 @@ fn numbers_told(what: u8, told: Told, pending: u32) -> [u32; 5] {
         4 => [told.view_hash, 0, 0, 0, 0],
         6 => [told.bits, 0, 0, 0, 0],
         7 => [told.forecast, 0, 0, 0, 0],
-        8 => [told.ticks, told.first, told.last, pending, told.hash],
+        9 => [told.ticks, told.first, told.last, pending, told.hash],
         _ => [told.byte as u32, 0, 0, 0, 0],
     }
 }
@@ -169,7 +172,7 @@ pub fn put_answer(out: &mut [u8; ROOM], len: usize, what: u8, told: Told, pendin
     let a = put_nth_form(
         out,
         len,
-        b"R %b|W|P %b|Q|V %w|Z|L %w Silent|L %w Held|L %w Playing|F %d|F none|C %d %d %d %d %w",
+        b"R %b|W|P %b|Q|V %w|Z|L %w Silent|L %w Held|L %w Playing|F %d|F none|B %b|C %d %d %d %d %w",
         form_of(what, told),
         &numbers,
     );

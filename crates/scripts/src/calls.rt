@@ -72,7 +72,7 @@ pub fn layout_of(line: Line) -> MemoryLayout {
     }
 }
 
-// The settings of such a line, which stand behind its layout.
+// The settings that such a line names, which stand behind its layout.
 fn settings_of(line: Line) -> Settings {
     if line.what == kinds::LAYOUT_S {
         return Settings::new(mirroring_of(line.a), revision_of(line.b));
@@ -80,8 +80,10 @@ fn settings_of(line: Line) -> Settings {
     Settings::new(mirroring_of(line.f), revision_of(line.g))
 }
 
-fn create(fixed: &[u8], changing: &[u8], line: Line) -> Played {
-    let created = Board::create(layout_of(line), settings_of(line), fixed, changing);
+fn create(fixed: &[u8], changing: &[u8], open_bus: bool, line: Line) -> Played {
+    let mut settings = settings_of(line);
+    settings.open_bus = open_bus;
+    let created = Board::create(layout_of(line), settings, fixed, changing);
     leaving(created.board, Told::number(created.refusal))
 }
 
@@ -135,6 +137,7 @@ fn pokes(line: Line) -> bool {
 pub fn play_on(
     numbers: [u32; COUNT],
     told: Told,
+    open_bus: bool,
     fixed: &[u8],
     changing: &mut [u8],
     line: Line,
@@ -148,7 +151,7 @@ pub fn play_on(
         return play_clocks(board_of(numbers), line.a);
     }
     if what <= kinds::CREATE {
-        return create(fixed, changing, line);
+        return create(fixed, changing, open_bus, line);
     }
     if pokes(line) {
         return poke(numbers, told, line);

@@ -24,16 +24,17 @@ fn creates(what: u8) -> bool {
     (kinds::FILLED <= what) & (what <= kinds::CREATE)
 }
 
-// What is wrong with a line; 0 for nothing. Only what creates, a heading, a comment and a blank line stand before the first board.
+// What is wrong with a line; 0 for nothing. Only what creates, the setting of boards, a heading, a comment and a blank line stand
+// before the first board.
 fn wrong_of(line: Line, made: bool) -> u8 {
     if line.wrong != 0 {
         return line.wrong;
     }
-    let first = creates(line.what) | (kinds::HEADING <= line.what);
+    let first = creates(line.what) | (kinds::OPEN_BUS <= line.what);
     if !made & !first {
         return NO_BOARD;
     }
-    if (line.what == kinds::POKE) & (values::SUM < line.a) {
+    if (line.what == kinds::POKE) & (values::OPEN_BUS < line.a) {
         return NO_VALUE;
     }
     if (line.what == kinds::LEND) & (room_of(line.a) < line.b as usize) {
@@ -50,6 +51,14 @@ fn marks(what: u8) -> bool {
         | (what == kinds::POKE)
 }
 
+// The setting of boards that are created from a line on.
+fn open_bus_by(open_bus: bool, line: Line) -> bool {
+    if (kinds::OPEN_BUS <= line.what) & (line.what < kinds::HEADING) {
+        return line.a == 1;
+    }
+    open_bus
+}
+
 // What a line does to the board, over the lent bytes of the buffers.
 fn play_lent(session: Session, fixed: &[u8], changing: &mut [u8], line: Line) -> Played {
     let lent = session.lent;
@@ -59,6 +68,7 @@ fn play_lent(session: Session, fixed: &[u8], changing: &mut [u8], line: Line) ->
     play_on(
         numbers,
         session.told,
+        session.open_bus,
         &fixed[0..n],
         &mut changing[0..m],
         line,
@@ -74,6 +84,7 @@ fn act(
 ) -> Session {
     let lent = lent_by(session.lent, line);
     session.lent = lent;
+    session.open_bus = open_bus_by(session.open_bus, line);
     set_lent(lent, fixed, changing, line);
     let played = play_lent(session, fixed, changing, line);
     let numbers = played.numbers;

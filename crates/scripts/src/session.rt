@@ -42,6 +42,8 @@ pub struct Session {
     pub told: Told,
     // Whether a board was created.
     pub made: bool,
+    // The setting of boards that are created.
+    pub open_bus: bool,
     pub lent: Lent,
     // Whether answers are printed, and a dump behind each.
     pub answers: bool,
@@ -65,6 +67,7 @@ impl Session {
             changing_mark: 0,
             told: Told::number(0),
             made: false,
+            open_bus: false,
             lent: Lent {
                 fixed: 0,
                 changing: 0,

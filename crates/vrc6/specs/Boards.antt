@@ -1,5 +1,5 @@
 -- A board with its buffers, what creation is given, the new board and the all-zero one (01, Records; 01, The board's calls). Assumes nothing.
-use mathlib.Core.Bool.{false}
+use mathlib.Core.Bool.{Bool, false}
 use mathlib.Core.List.{List}
 use Prim.Native.Nat.{ℕ}
 use lib.ListN.{replicate}
@@ -34,9 +34,9 @@ pub record Creation : Type 0 where
   pub fixed : List ℕ
   pub changing : List ℕ
 
--- a board whose entries all follow from its layout and its banking values (01, Banks and decode 2)
-abbrev pub paged : MemoryLayout → Banking → VrcIrq → Audio → Board
-paged l b q a =
+-- a board whose entries all follow from its layout and its banking values, with a bus setting (01, Banks and decode 2; 02, change 1)
+abbrev pub paged : MemoryLayout → Banking → VrcIrq → Audio → (setting : Bool) → Board
+paged l b q a setting =
     record {
       layout = l;
       «prg_pages» = cpuEntries l b;
@@ -44,11 +44,13 @@ paged l b q a =
       banking = b;
       irq = q;
       audio = a;
+      «open_bus» = setting;
     }
 
--- a new board: all eleven registers 0, interrupt all 0, sound as `Audio::new` (01, Banks and decode 2)
+-- a new board: all eleven registers 0, interrupt all 0, sound as `Audio::new`, the bus setting as given
+-- (01, Banks and decode 2; 02, change 1)
 abbrev pub newBoard : MemoryLayout → Settings → Board
-newBoard l s = paged l (firstBanking s) irqZero (audioAt 1)
+newBoard l s = paged l (firstBanking s) irqZero (audioAt 1) (s .«open_bus»)
 
 -- the all-zero board that a refused create returns (01, The board's calls 3; 01, The board's calls 4)
 abbrev pub zeroBoard : Board
@@ -60,9 +62,10 @@ zeroBoard =
       banking = zeroBanking;
       irq = irqZero;
       audio = audioAt 0;
+      «open_bus» = false;
     }
 
--- a board with other banking values, and the entries that follow from them (01, Banks and decode 2)
+-- a board with other banking values, and the entries that follow from them; the setting stays (01, Banks and decode 2; 02, change 1)
 abbrev pub withBanking : Board → Banking → Board
 withBanking b k =
     record {
@@ -72,9 +75,10 @@ withBanking b k =
       banking = k;
       irq = b .irq;
       audio = b .audio;
+      «open_bus» = b .«open_bus»;
     }
 
--- a board with another interrupt and another sound
+-- a board with another interrupt and another sound; the setting stays (02, change 1)
 abbrev pub withEngine : Board → VrcIrq → Audio → Board
 withEngine b q a =
     record {
@@ -84,6 +88,7 @@ withEngine b q a =
       banking = b .banking;
       irq = q;
       audio = a;
+      «open_bus» = b .«open_bus»;
     }
 
 -- the CPU's table of a board, or the picture side's

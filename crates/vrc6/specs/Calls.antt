@@ -5,13 +5,14 @@ use Prim.Native.Nat.{ℕ}
 use lib.ListN.{length}
 use Rattle.base_shared.specs.Refusals.{unless}
 use Rattle.memory_tables.specs.Paging.{Side, cpu, picture}
-use Rattle.memory_access.specs.Access.{peeked, stored, viewed}
+use Rattle.memory_access.specs.Access.{stored, viewed}
 use Rattle.registers.specs.declared.Register.{Register}
 use Rattle.registers.specs.declared.Register.the-variants.{Nothing, OfBank, OfAudio, OfIrq}
 use Rattle.registers.specs.Decode.{decode}
 use Rattle.vrc6_banking.specs.Banking.{bankWritten}
 use Rattle.irq.specs.Writes.{irqWritten}
 use Rattle.audio.specs.Sound.{audioWritten}
+use Rattle.vrc6_parts.specs.Reads.{Caller, byCpu, byPicture, peekedBy}
 use Rattle.vrc6_engine.specs.Engine.{engineClocked, engineClock, engineWasReset, engineReset, engineLevel, engineForecast}
 use Rattle.vrc6.specs.declared.board.Board.{Board}
 use Rattle.vrc6.specs.declared.board.Created.{Created}
@@ -33,10 +34,16 @@ create c =
     }
 
 -- ---- reads
--- CPU read and picture read: the board as given, the byte, the number (01, The board's calls 1; 01, The board's calls 3)
-abbrev pub byteRead : Side → State → (address : ℕ) → ByteRead
-byteRead s x address =
-    let got = peeked (x .board .layout) (entryOf s (x .board) address) (x .fixed) (x .changing) address in
+-- the table that a caller reads through
+abbrev pub sideOf : Caller → Side
+sideOf (byCpu bus) = cpu
+sideOf byPicture = picture
+
+-- CPU read, with a bus byte, and picture read: the board as given, the byte, the number
+-- (01, The board's calls 1; 01, The board's calls 3; 02, change 1)
+abbrev pub byteRead : Caller → State → (address : ℕ) → ByteRead
+byteRead k x address =
+    let got = peekedBy k (x .board .«open_bus») (x .board .layout) (entryOf (sideOf k) (x .board) address) (x .fixed) (x .changing) address in
     record { board = x .board; byte = got .byte; refusal = got .refusal }
 
 -- ---- writes

@@ -15,6 +15,8 @@ pub struct Board {
     pub banking: Banking,
     pub irq: VrcIrq,
     pub audio: Audio,
+    // What creation chose: a CPU read where nothing is there hands back the bus byte.
+    pub open_bus: bool,
 }
 
 // Both act alike.

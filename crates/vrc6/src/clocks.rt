@@ -30,18 +30,18 @@ impl Board {
         }
     }
 
-    // Soft and hard alike: the interrupt is cleared, of the sound halt only, and no bank moves.
+    // Soft and hard alike: the interrupt is cleared, of the sound halt only; no bank moves, and the bus setting stays.
     pub fn reset(self, _kind: ResetKind) -> Written
         ensures { λ r. ⌜ r ≡ reset self ⌝ }
     {
         let after = reset_engine(self.irq, self.audio);
         let irq = after.irq;
         let audio = after.audio;
-        let mut board = self;
-        board.irq = irq;
-        board.audio = audio;
+        let mut next = self;
+        next.irq = irq;
+        next.audio = audio;
         Written {
-            board,
+            board: next,
             refusal: after.refusal,
         }
     }

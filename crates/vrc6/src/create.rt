@@ -33,10 +33,11 @@ impl Board {
             banking: Banking::zero(),
             irq: VrcIrq::new(),
             audio: Audio::zero(),
+            open_bus: false,
         }
     }
 
-    // A new board: registers and interrupt 0, sound as new, the nametables of the mirroring given.
+    // A new board: registers and interrupt 0, sound as new, the nametables of the mirroring and the bus setting given.
     fn new(layout: MemoryLayout, settings: Settings) -> Board
         requires { ⌜ Limits layout ⌝ }
         ensures { λ r. ⌜ r ≡ newBoard layout settings ⌝ }
@@ -49,6 +50,7 @@ impl Board {
             banking,
             irq: VrcIrq::new(),
             audio: Audio::new(),
+            open_bus: settings.open_bus,
         }
     }
 

@@ -10,6 +10,7 @@ use vrc6_parts::reads::cpu_peek;
 use vrc6_parts::reads::picture_peek;
 ghost use mathlib.Core.Path.{_≡_};
 ghost use Rattle.memory_tables.specs.Paging.{cpu, picture};
+ghost use Rattle.vrc6_parts.specs.Reads.{byCpu, byPicture};
 ghost use Rattle.vrc6.specs.Boards.{entryOf, heldBy};
 ghost use Rattle.vrc6.specs.Calls.{byteRead, pageView, pageViewRefusal};
 
@@ -30,11 +31,13 @@ impl Board {
         chr_entry(pages, addr)
     }
 
-    pub fn cpu_read(self, fixed: &[u8], changing: &[u8], addr: u16) -> ByteRead
-        ensures { λ r. ⌜ r ≡ byteRead cpu (heldBy self (now (fixed .entry)) (now (changing .entry))) addr ⌝ }
+    // bus is the byte that the bus last held: with the setting on, a read where nothing is there hands it back.
+    pub fn cpu_read(self, fixed: &[u8], changing: &[u8], addr: u16, bus: u8) -> ByteRead
+        ensures { λ r. ⌜ r ≡ byteRead (byCpu bus) (heldBy self (now (fixed .entry)) (now (changing .entry))) addr ⌝ }
     {
+        let open_bus = self.open_bus;
         let page = self.cpu_page(addr);
-        let got = cpu_peek(self.layout, page, fixed, changing, addr);
+        let got = cpu_peek(self.layout, page, open_bus, fixed, changing, addr, bus);
         ByteRead {
             board: self,
             byte: got.byte,
@@ -43,7 +46,7 @@ impl Board {
     }
 
     pub fn picture_read(self, fixed: &[u8], changing: &[u8], addr: u16) -> ByteRead
-        ensures { λ r. ⌜ r ≡ byteRead picture (heldBy self (now (fixed .entry)) (now (changing .entry))) addr ⌝ }
+        ensures { λ r. ⌜ r ≡ byteRead byPicture (heldBy self (now (fixed .entry)) (now (changing .entry))) addr ⌝ }
     {
         let page = self.picture_page(addr);
         let shown = picture_peek(self.layout, page, fixed, changing, addr);

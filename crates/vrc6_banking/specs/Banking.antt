@@ -27,9 +27,9 @@ abbrev pub isB : Revision → Bool
 isB A = false
 isB B = true
 
--- the settings of creation that have a mirroring and a revision (01, The board's calls 1)
+-- the settings of creation that have a mirroring and a revision, and of what was added nothing (01, The board's calls 1; 02, change 1)
 abbrev pub settingsOf : Mirroring → Revision → Settings
-settingsOf m r = record { mirroring = m; revision = r }
+settingsOf m r = record { mirroring = m; revision = r; «open_bus» = false }
 
 -- at creation: all registers 0, the mirroring given and its numbers (01, Banks and decode 2; 01, Banks and decode 6)
 abbrev pub firstBanking : Settings → Banking

@@ -19,15 +19,19 @@ pub enum Revision {
 pub struct Settings {
     pub mirroring: Mirroring,
     pub revision: Revision,
+    // A CPU read where nothing is there hands back the bus byte, as a console does; off, it shows 0.
+    pub open_bus: bool,
 }
 
 impl Settings {
+    // The original's board: no open bus.
     pub fn new(mirroring: Mirroring, revision: Revision) -> Self
         ensures { λ r. ⌜ r ≡ settingsOf mirroring revision ⌝ }
     {
         Self {
             mirroring,
             revision,
+            open_bus: false,
         }
     }
 }

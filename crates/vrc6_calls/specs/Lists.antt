@@ -6,6 +6,7 @@ use Prim.Native.Nat.{ℕ}
 use lib.Ieee.{Float}
 use Rattle.base_shared.specs.Rows.{flag}
 use Rattle.memory_tables.specs.Paging.{Side, cpu, picture}
+use Rattle.vrc6_parts.specs.Reads.{Caller, byCpu, byPicture}
 use Rattle.audio.specs.Levels.{levelRefusal, levelIn}
 use Rattle.vrc6.specs.declared.board.Board.{Board}
 use Rattle.vrc6.specs.declared.board.ByteRead.{ByteRead}
@@ -28,10 +29,10 @@ use Rattle.vrc6.specs.Calls.{byteRead, cpuWrite, cpuWriteLeft, pictureWrite, pi
 pub data Ask : Type 0 where
   clocking resetting leveling forecasting : Ask
 
--- what a call is, in either form, by value or lent: a read or a write of one side, a view, or one that asks interrupt and
+-- what a call is, in either form, by value or lent: a read by a caller, a write of one side, a view, or one that asks interrupt and
 -- sound alone (01, The board's calls 1)
 pub data Shape : Type 0 where
-  reads : Side → (address : ℕ) → Shape
+  reads : Caller → (address : ℕ) → Shape
   writes : Side → (address byte : ℕ) → Shape
   views : (address : ℕ) → Shape
   asks : Ask → Shape
@@ -39,10 +40,10 @@ pub data Shape : Type 0 where
 -- the kind of each call: clock and CPU write alike in both forms, of which the lent ones' contracts name the same definitions, and the resets
 -- (01, Demand 3's lists and their ledger 1; 01, Rust forms to recast 1)
 abbrev pub shape : Call → Shape
-shape (CpuRead a) = reads cpu a
+shape (CpuRead a bus) = reads (byCpu bus) a
 shape (CpuWrite a v) = writes cpu a v
 shape (LentCpuWrite a v) = writes cpu a v
-shape (PictureRead a) = reads picture a
+shape (PictureRead a) = reads byPicture a
 shape (PictureWrite a v) = writes picture a v
 shape Clock = asks clocking
 shape LentClock = asks clocking
@@ -71,7 +72,7 @@ answerTo b forecasting = ofForecast (forecast b)
 
 -- what a call of each kind gives
 abbrev pub givenBy : State → Shape → Given
-givenBy x (reads s a) = ofRead (byteRead s x a)
+givenBy x (reads k a) = ofRead (byteRead k x a)
 givenBy x (writes cpu a v) = ofWrite (cpuWrite x a v)
 givenBy x (writes picture a v) = ofWrite (pictureWrite x a v)
 givenBy x (views a) = ofView (pageView x a) (pageViewRefusal x a)
@@ -83,7 +84,7 @@ given x k = givenBy x (shape k)
 
 -- the changing buffer after a call of each kind
 abbrev pub changingBy : State → Shape → List ℕ
-changingBy x (reads s a) = x .changing
+changingBy x (reads k a) = x .changing
 changingBy x (writes cpu a v) = cpuWriteLeft x a v .changing
 changingBy x (writes picture a v) = pictureWriteLeft x a v .changing
 changingBy x (views a) = x .changing

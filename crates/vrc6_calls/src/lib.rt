@@ -14,9 +14,9 @@ ghost use Rattle.vrc6.specs.Boards.{heldBy};
 ghost use Rattle.vrc6_calls.specs.Lists.{changingAfter, step};
 ghost use Rattle.vrc6_calls.specs.Stepping.{ofByteRead, ofClocked, ofForecasted, ofLeveled, ofWritten};
 
-// A call with its arguments. Clock and CPU write stand twice, by value and for their lent forms, which promise the same.
+// A call with its arguments; a CPU read has the bus byte behind its address. Clock and CPU write stand twice, by value and for their lent forms, which promise the same.
 pub enum Call {
-    CpuRead(u16),
+    CpuRead(u16, u8),
     CpuWrite(u16, u8),
     LentCpuWrite(u16, u8),
     PictureRead(u16),
@@ -105,7 +105,7 @@ pub fn step(board: Board, fixed: &[u8], changing: &mut [u8], call: Call) -> Step
     ensures { λ _. ⌜ now (changing .exit) ≡ changingAfter (heldBy board (now (fixed .entry)) (now (changing .entry))) call ⌝ }
 {
     match call {
-        Call::CpuRead(addr) => of_byte_read(board.cpu_read(fixed, &*changing, addr)),
+        Call::CpuRead(addr, bus) => of_byte_read(board.cpu_read(fixed, &*changing, addr, bus)),
         Call::CpuWrite(addr, val) => of_written(board.cpu_write(fixed, &mut *changing, addr, val)),
         Call::LentCpuWrite(addr, val) => of_written(board.cpu_write(
             fixed,

@@ -38,6 +38,7 @@ use Rattle.audio.proofs.Kept.{kept-law, sum-law}
 use Rattle.vrc6_calls.specs.Lists.{Shape, reads, writes, views, asks}
 use Rattle.vrc6.specs.Boards.{Creation, entryOf}
 use Rattle.vrc6.specs.Checks.{createRefusal, engineInRange, memoryRefusal, registerChecks}
+use Rattle.vrc6.specs.Calls.{sideOf}
 use Rattle.vrc6_ledger.specs.Ledger.{Ledger, Registers, Timing, Event, cpuWrites, pictureWrites, clocks, resets, looks, noted, opening, byteOf, settled, bankingBy, bankingOf, entries, registersAfter, timingAfter, timingClocked, copied}
 use Rattle.vrc6_ledger.specs.Demand3.{WholeSum}
 use Rattle.vrc6_ledger.specs.Refused.{memoryChecks, createChecks}
@@ -166,7 +167,7 @@ module _ (c : Creation) (ok : Accepted c) where
     write a = memory cpu a (registerChecks (shown c l r x .board) a) (rw (banks (l .origin) (l .registers), engine) (or-true (ltb a 0x8000)))
 
     pub none-refused : (s : Shape) → refusalBy (shown c l r x) s ≡ 0
-    none-refused (reads s a) = memory s a true refl
+    none-refused (reads k a) = memory (sideOf k) a true refl
     none-refused (writes cpu a v) = write a
     none-refused (writes picture a v) = memory picture a true refl
     none-refused (views a) = memory picture a true refl

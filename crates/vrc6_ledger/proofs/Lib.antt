@@ -7,6 +7,7 @@ pub mod Exhibits
 pub mod Lasting
 pub mod Refusals
 pub mod Bytes
+pub mod OpenBus
 pub mod Tabled
 pub mod Answered
 pub mod Rows

@@ -11,7 +11,7 @@ use Rattle.vrc6.specs.declared.board.ByteRead.{ByteRead}
 use Rattle.vrc6.specs.declared.board.Written.{Written}
 use Rattle.vrc6.specs.Boards.{State, heldBy, newBoard, zeroBoard}
 use Rattle.vrc6.specs.Checks.{createRefusal, memoryRefusal, cpuWriteRefusal}
-use Rattle.vrc6.specs.Calls.{byteRead, cpuWrite, pictureWrite}
+use Rattle.vrc6.specs.Calls.{sideOf, byteRead, cpuWrite, pictureWrite}
 use Rattle.vrc6_calls.specs.Lists.{Shape, reads, writes, views, asks, shape, ofRead, ofWrite, given, givenBy, refusalIn, nextBy}
 use Rattle.vrc6_ledger.specs.Refused.{GivenBack, RefusedLaw, RefusedCreateLaw, checks, checksBy, createChecks, OrderLaw}
 use Rattle.vrc6_ledger.proofs.Shown.{answered}
@@ -34,7 +34,7 @@ module _ (x : State) where
       record { state = refl; byte = refl; view = not-done (memoryRefusal picture x a true) _ [] h; tick = refl; level = refl; forecast = refl }
 
   given-back : (s : Shape) → (firstFailing (checksBy x s) ≡ 0 → ⊥) → GivenBack x (givenBy x s) (nextBy x s)
-  given-back (reads s a) h = of-read (memoryRefusal s x a true) _ (byteRead s x a) refl h
+  given-back (reads k a) h = of-read (memoryRefusal (sideOf k) x a true) _ (byteRead k x a) refl h
   given-back (writes cpu a v) h = of-write (cpuWrite x a v) _ (state-back (cpuWriteRefusal x a) _ h)
   given-back (writes picture a v) h = of-write (pictureWrite x a v) _ (state-back (memoryRefusal picture x a true) _ h)
   given-back (views a) h = of-view a h
@@ -49,7 +49,7 @@ refused-create-law c h = not-done (createRefusal c) (newBoard (c .layout) (c .se
 -- ---- the order of the numbers
 -- every check has a number of its own, whatever the checks themselves say
 own-numbers : (x : State) (s : Shape) → ownNumbers (checksBy x s) ≡ true
-own-numbers x (reads s a) = refl
+own-numbers x (reads k a) = refl
 own-numbers x (writes cpu a v) = refl
 own-numbers x (writes picture a v) = refl
 own-numbers x (views a) = refl

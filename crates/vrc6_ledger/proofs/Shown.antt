@@ -54,7 +54,7 @@ irqOf t q =
     }
 
 abbrev pub boardOf : Creation → Settings → Registers → Timing → VrcIrq → Audio → Board
-boardOf c o g t r a = paged (c .layout) (bankingBy o g) (irqOf t r) a
+boardOf c o g t r a = paged (c .layout) (bankingBy o g) (irqOf t r) a (o .«open_bus»)
 
 abbrev pub shown : Creation → Ledger → VrcIrq → Audio → State
 shown c l r a = heldBy (boardOf c (l .origin) (l .registers) (l .timing) r a) (c .fixed) (l .copy)
@@ -157,7 +157,7 @@ left-by : (x y : State) (n : ℕ) → n ≡ 0 → heldBy (unless n y x .board) (
 left-by x y n h = ap (λ (m : ℕ). heldBy (unless m y x .board) (x .fixed) (unless m y x .changing)) h
 
 shape-done : (x : State) (s : Shape) → refusalBy x s ≡ 0 → nextBy x s ≡ done x (eventBy s)
-shape-done x (reads s a) h = refl
+shape-done x (reads k a) h = refl
 shape-done x (writes cpu a v) h = left-by x (cpuWritten x a v) (cpuWriteRefusal x a) h
 shape-done x (writes picture a v) h = left-by x (pictureWritten x a v) (memoryRefusal picture x a true) h
 shape-done x (views a) h = refl
@@ -168,7 +168,7 @@ next-done x k h = shape-done x (shape k) h
 
 -- the answer says that number
 pub answered : (x : State) (s : Shape) → refusalIn (givenBy x s) ≡ refusalBy x s
-answered x (reads s a) = refl
+answered x (reads k a) = refl
 answered x (writes cpu a v) = refl
 answered x (writes picture a v) = refl
 answered x (views a) = refl
@@ -180,7 +180,7 @@ module _ (c : Creation) (l : Ledger) (r : VrcIrq) (x : Audio) where
   stepped k e h = next-done (shown c l r x) k h ∙ led c l r x (event k) e
 
   pub ticked : (s : Shape) → refusalBy (shown c l r x) s ≡ 0 → ticksIn (givenBy (shown c l r x) s) ≡ ticksNoted (l .timing) (eventBy s)
-  ticked (reads s a) h = refl
+  ticked (reads k a) h = refl
   ticked (writes cpu a v) h = refl
   ticked (writes picture a v) h = refl
   ticked (views a) h = refl

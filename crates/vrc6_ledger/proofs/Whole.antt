@@ -9,6 +9,7 @@ use Rattle.irq.specs.declared.VrcIrq.{VrcIrq}
 use Rattle.irq.specs.Interrupt.{irqZero}
 use Rattle.audio.specs.declared.Audio.{Audio}
 use Rattle.audio.specs.Sound.{audioAt}
+use Rattle.vrc6_banking.specs.declared.banking.Settings.{Settings}
 use Rattle.vrc6_calls.specs.declared.Call.{Call}
 use Rattle.vrc6.specs.Boards.{State, heldBy, Creation, newBoard, zeroBoard, table}
 use Rattle.vrc6.specs.Checks.{createRefusal}
@@ -19,6 +20,7 @@ use Rattle.vrc6_ledger.specs.Foreseen.{foreseen, ForeseenLaw}
 use Rattle.vrc6_ledger.specs.Played.{played, PlayedLaw}
 use Rattle.vrc6_ledger.proofs.Ticks.{counted-part}
 use Rattle.vrc6_ledger.proofs.Shown.{shown, irqAfter, audioNext, led, refusalOf, answered, stepped, ticked}
+use Rattle.vrc6_ledger.proofs.Lasting.{origin-law}
 use Rattle.vrc6_ledger.proofs.Kept.{Accepted, accepted, Kept, first-kept, none-refused, kept}
 
 -- ---- the list, from any state that a ledger shows: what it comes to, and what its answers say
@@ -95,6 +97,7 @@ demand3 c h ks =
       layout = ap (λ (x : State). x .board .layout) (w .state);
       pages = pages;
       banking = ap (λ (x : State). x .board .banking) (w .state);
+      setting = ap (λ (x : State). x .board .«open_bus») (w .state) ∙ ap (λ (s : Settings). s .«open_bus») (origin-law c ks);
       timing = ap (λ (x : State). timingOf (x .board .irq)) (w .state);
       prescaler = w .lasts .prescaler;
       changing = ap (λ (x : State). x .changing) (w .state);

@@ -109,6 +109,8 @@ pub record Claim (c : Creation) (ks : List Call) : Type 0 where
   pub pages : (s : Side) → table s (after (start c) ks .board) ≡ entries s c (ledgerOf c ks)
   -- and so are mode, PRG and CHR numbers, mirroring, nametable numbers and revision
   pub banking : after (start c) ks .board .banking ≡ bankingOf (ledgerOf c ks)
+  -- the bus setting is creation's (02, change 1)
+  pub setting : after (start c) ks .board .«open_bus» ≡ c .settings .«open_bus»
   -- the four interrupt values are the ledger's
   pub timing : timingOf (after (start c) ks .board .irq) ≡ ledgerOf c ks .timing
   -- where the prescaler never leaves 0 to 341

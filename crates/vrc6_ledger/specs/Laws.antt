@@ -9,12 +9,13 @@ use Rattle.memory_pages.specs.Pages.{unmapped, writable}
 use Rattle.memory_layout.specs.Entries.{entryInRange}
 use Rattle.memory_tables.specs.Paging.{Side, cpu, picture, entryCount, entryFor}
 use Rattle.memory_access.specs.Access.{place}
+use Rattle.vrc6_parts.specs.Reads.{Caller, byPicture}
 use Rattle.vrc6_calls.specs.declared.Call.{Call}
 use Rattle.vrc6_calls.specs.declared.Call.the-variants.{CpuWrite, PictureWrite}
 use Rattle.vrc6.specs.declared.board.Board.{Board}
 use Rattle.vrc6.specs.Boards.{State, heldBy, Creation, table, entryOf}
 use Rattle.vrc6.specs.Checks.{memoryRefusal, cpuWriteRefusal}
-use Rattle.vrc6.specs.Calls.{create, byteRead, storedAt, pageView, pageViewRefusal}
+use Rattle.vrc6.specs.Calls.{create, sideOf, byteRead, storedAt, pageView, pageViewRefusal}
 use Rattle.vrc6_calls.specs.Lists.{next, after}
 use Rattle.vrc6_ledger.specs.Ledger.{ledgerOf, entries}
 use Rattle.vrc6_ledger.specs.Demand3.{start}
@@ -28,10 +29,10 @@ abbrev pub put : Side → State → (address byte : ℕ) → State
 put s x address byte = heldBy (x .board) (x .fixed) (storedAt s x address byte)
 
 -- ---- a byte stored
--- through a writable entry it is read back at its address, on the same side; no other byte of either buffer moves; through an unwritable
--- entry nothing changes (01, Paging 2)
+-- through a writable entry it is read back at its address, by every caller of the same side, whatever the bus byte; no other byte of
+-- either buffer moves; through an unwritable entry nothing changes (01, Paging 2; 02, change 1)
 pub record Stored (s : Side) (x : State) (address byte : ℕ) : Type 0 where
-  pub read-back : writable (entryOf s (x .board) address) ≡ true → byteRead s (put s x address byte) address .byte ≡ byte
+  pub read-back : writable (entryOf s (x .board) address) ≡ true → (k : Caller) → sideOf k ≡ s → byteRead k (put s x address byte) address .byte ≡ byte
   pub others : (i : ℕ) → (i ≡ place (entryOf s (x .board) address) address → ⊥)
       → getD (bytes (put s x address byte)) i 0 ≡ getD (bytes x) i 0
   pub unwritable : writable (entryOf s (x .board) address) ≡ false → put s x address byte ≡ x
@@ -65,15 +66,15 @@ Plain picture address = Unit {0}
 -- after every list of calls: a byte written where the ledger's entry is writable is what the next read there gives (01, Paging 2)
 abbrev pub ReadBackLaw : Type 0
 ReadBackLaw =
-    (c : Creation) → create c .refusal ≡ 0 → (ks : List Call) (s : Side) (address byte : ℕ) → Plain s address
-    → writable (entryFor s (entries s c (ledgerOf c ks)) address) ≡ true
-    → byteRead s (next (after (start c) ks) (writeOf s address byte)) address .byte ≡ byte
+    (c : Creation) → create c .refusal ≡ 0 → (ks : List Call) (k : Caller) (address byte : ℕ) → Plain (sideOf k) address
+    → writable (entryFor (sideOf k) (entries (sideOf k) c (ledgerOf c ks)) address) ≡ true
+    → byteRead k (next (after (start c) ks) (writeOf (sideOf k) address byte)) address .byte ≡ byte
 
 -- ---- a view
 -- it is 1,024 bytes, and shows of each address of its page what a picture read gives there (01, The board's calls 2)
 pub record Viewed (x : State) (address : ℕ) : Type 0 where
   pub whole : pageViewRefusal x address ≡ 0 → length (pageView x address) ≡ 1024
-  pub shows : (b : ℕ) → b / 1024 ≡ address / 1024 → getD (pageView x address) (b % 1024) 0 ≡ byteRead picture x b .byte
+  pub shows : (b : ℕ) → b / 1024 ≡ address / 1024 → getD (pageView x address) (b % 1024) 0 ≡ byteRead byPicture x b .byte
 
 -- of every board and buffers, refused or not
 abbrev pub ViewLaw : Type 0

@@ -43,8 +43,8 @@ pub record Timing : Type 0 where
   pub cycle : Bool
   pub prescaler : ℕ
 
--- the ledger: what the board was made with (of it the mirroring stands until mode or a CHR register has a byte, and the revision decodes),
--- registers, a copy of the changing buffer, interrupt values (01, Demand 3's lists and their ledger 2)
+-- the ledger: what the board was made with (of it the mirroring stands until mode or a CHR register has a byte, the revision decodes, and
+-- the bus setting decides what a CPU read gives where nothing is there), registers, a copy of the changing buffer, interrupt values (01, Demand 3's lists and their ledger 2)
 pub record Ledger : Type 0 where
   pub origin : Settings
   pub registers : Registers
@@ -124,7 +124,7 @@ asked forecasting = looks
 
 -- what a call of each kind is to it; reads, level, view and forecast are all one (01, Demand 3's lists and their ledger 6)
 abbrev pub eventBy : Shape → Event
-eventBy (reads s a) = looks
+eventBy (reads k a) = looks
 eventBy (writes cpu a v) = cpuWrites a v
 eventBy (writes picture a v) = pictureWrites a v
 eventBy (views a) = looks

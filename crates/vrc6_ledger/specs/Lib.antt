@@ -6,5 +6,6 @@ pub mod Foreseen
 pub mod Refused
 pub mod Played
 pub mod Laws
+pub mod OpenBus
 pub mod Answers
 pub mod Positions

@@ -13,7 +13,7 @@ use Rattle.vrc6_calls.specs.declared.Call.{Call}
 use Rattle.vrc6_parts.specs.Checks.{allZero}
 use Rattle.vrc6.specs.Boards.{State, Creation, zeroBoard, entryOf}
 use Rattle.vrc6.specs.Checks.{engineInRange, registerChecks}
-use Rattle.vrc6.specs.Calls.{create}
+use Rattle.vrc6.specs.Calls.{create, sideOf}
 use Rattle.vrc6_calls.specs.Lists.{Shape, reads, writes, views, asks, shape, Given, given, parts, refusalIn, next}
 
 -- ---- refused
@@ -51,7 +51,7 @@ engineChecks x = (engineInRange (x .board), 3) ∷ []
 
 -- what each kind of call checks, in order, with the number of each (01, The board's calls 4)
 abbrev pub checksBy : State → Shape → List (Bool × ℕ)
-checksBy x (reads s a) = memoryChecks s x a true
+checksBy x (reads k a) = memoryChecks (sideOf k) x a true
 checksBy x (writes cpu a v) = memoryChecks cpu x a (registerChecks (x .board) a)
 checksBy x (writes picture a v) = memoryChecks picture x a true
 checksBy x (views a) = memoryChecks picture x a true

@@ -3,3 +3,4 @@ pub mod Regions
 pub mod Windows
 pub mod Entries
 pub mod Counts
+pub mod Nothing

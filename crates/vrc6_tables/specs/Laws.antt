@@ -1,16 +1,18 @@
 -- Laws of both tables; `proofs/` proves them. Assumes nothing.
 use mathlib.Core.Path.{_≡_}
-use mathlib.Core.Bool.{true}
-use Prim.Native.Nat.{ℕ, _+_, _<_}
+use mathlib.Core.Bool.{Bool, true, cond, not, _||_}
+use Prim.Native.Nat.{ℕ, _+_, _^_, _<_}
+use lib.Dec.{eqb, ltb}
 use lib.ListN.{length, getD}
-use Rattle.memory_pages.specs.Pages.{unmapped}
+use Rattle.base_shared.specs.Bits.{bit}
+use Rattle.memory_pages.specs.Pages.{isUnmapped, unmapped}
 use Rattle.memory_layout.specs.declared.regions.MemoryLayout.{MemoryLayout}
 use Rattle.memory_layout.specs.Layout.{withinLimits}
 use Rattle.memory_layout.specs.Entries.{entryInRange}
-use Rattle.memory_tables.specs.Paging.{Side, entryCount}
+use Rattle.memory_tables.specs.Paging.{Side, cpu, entryCount, entryFor}
 use Rattle.vrc6_banking.specs.declared.banking.Banking.{Banking}
 use Rattle.vrc6_banking.specs.Laws.{WellFormed}
-use Rattle.vrc6_tables.specs.Tables.{tableOf, pictureEntries}
+use Rattle.vrc6_tables.specs.Tables.{cpuEntries, tableOf, pictureEntries}
 
 -- of a layout within its limits every entry of either table is one that its boards can hold, whatever the banking values (01, The board's calls 4)
 abbrev pub EntriesLaw : Type 0
@@ -26,3 +28,16 @@ abbrev pub RepeatLaw : Type 0
 RepeatLaw =
     (l : MemoryLayout) (b : Banking) → WellFormed b → (n : ℕ) → n < 4
     → getD (pictureEntries l b) (12 + n) unmapped ≡ getD (pictureEntries l b) (8 + n) unmapped
+
+-- where nothing is there for the CPU: below $6000; from $6000 to $7FFF with mode bit 7 clear or no PRG RAM; from $8000 up with no PRG ROM
+-- (02, change 1; 01, Banks and decode 2; 01, Paging 2)
+abbrev pub nothingAt : MemoryLayout → Banking → (address : ℕ) → Bool
+nothingAt l b address =
+    cond (ltb address 0x6000) true
+    (cond (ltb address 0x8000) (not (bit 7 (b .«banking_mode»)) || eqb (l .«prg_ram») 0) (eqb (l .«prg_rom») 0))
+
+-- of a layout within its limits the entry of a CPU address is the unmapped one exactly where nothing is there (02, change 1; 01, Paging 2)
+abbrev pub NothingLaw : Type 0
+NothingLaw =
+    (l : MemoryLayout) (b : Banking) → withinLimits l ≡ true → (address : ℕ) → address < 2 ^ 16
+    → isUnmapped (entryFor cpu (cpuEntries l b) address) ≡ nothingAt l b address

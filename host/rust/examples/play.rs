@@ -4,6 +4,9 @@ use vrc6::{Level, MemoryLayout, Refusal, Settings, Vrc6};
 const LAYOUT: MemoryLayout =
     MemoryLayout { prg_rom: 131_072, chr: 131_072, chr_writable: false, prg_ram: 8192, ciram: 2048 };
 
+/// What the bus holds whenever this program reads.
+const BUS: u8 = 165;
+
 /// A page of zeros, then each page of PRG ROM and of CHR filled with its number.
 fn made_up_rom() -> Vec<u8> {
     let numbers = (0..128).chain(0..128);
@@ -11,12 +14,13 @@ fn made_up_rom() -> Vec<u8> {
 }
 
 fn banks(v: &mut Vrc6) -> Result<(), Refusal> {
-    println!("created: $E000 reads {}", v.cpu_read(0xE000)?);
+    println!("created: $E000 reads {}", v.cpu_read(0xE000, BUS)?);
+    println!("PRG RAM off, {BUS} on the bus: $6123 reads {}", v.cpu_read(0x6123, BUS)?);
     v.cpu_write(0x8000, 3)?;
-    println!("first PRG number 3: $8000 reads {}", v.cpu_read(0x8000)?);
+    println!("first PRG number 3: $8000 reads {}", v.cpu_read(0x8000, BUS)?);
     v.cpu_write(0xB003, 0xA0)?;
     v.cpu_write(0x6123, 77)?;
-    println!("PRG RAM on, 77 written: $6123 reads {}", v.cpu_read(0x6123)?);
+    println!("PRG RAM on, 77 written: $6123 reads {}", v.cpu_read(0x6123, BUS)?);
     Ok(())
 }
 
@@ -61,7 +65,8 @@ fn pages(v: &mut Vrc6) -> Result<(), Refusal> {
 fn main() -> Result<(), Refusal> {
     let changing = vec![0x5A; LAYOUT.changing_length()];
     println!("fixed {} bytes, changing {} bytes", LAYOUT.fixed_length(), LAYOUT.changing_length());
-    let mut v = Vrc6::new(LAYOUT, Settings::default(), made_up_rom(), changing)?;
+    let settings = Settings { open_bus: true, ..Settings::default() };
+    let mut v = Vrc6::new(LAYOUT, settings, made_up_rom(), changing)?;
     banks(&mut v)?;
     interrupt(&mut v)?;
     sound(&mut v)?;

@@ -16,7 +16,8 @@ unsafe extern "C" {
     fn vrc6_clock(board: *mut Board) -> Tick;
     fn vrc6_clock_number(board: *mut Board) -> u8;
     fn vrc6_cpu_read(
-        board: *mut Board, fixed: *const u8, fixed_len: usize, changing: *const u8, changing_len: usize, addr: u16,
+        board: *mut Board, fixed: *const u8, fixed_len: usize, changing: *const u8, changing_len: usize,
+        addr: u16, bus: u8,
     ) -> Peeked;
     fn vrc6_picture_read(
         board: *mut Board, fixed: *const u8, fixed_len: usize, changing: *const u8, changing_len: usize, addr: u16,
@@ -60,9 +61,11 @@ pub fn clock_number(board: &mut Board) -> u8 {
     unsafe { vrc6_clock_number(board) }
 }
 
-pub fn cpu_read(board: &mut Board, fixed: &[u8], changing: &[u8], addr: u16) -> Peeked {
+/// Where nothing is there a board with `open_bus` gives `bus`, and a board without it shows the fixed buffer's first page.
+/// Refused, the byte is 0.
+pub fn cpu_read(board: &mut Board, fixed: &[u8], changing: &[u8], addr: u16, bus: u8) -> Peeked {
     // SAFETY: one live board; two live slices with their own lengths, only read.
-    unsafe { vrc6_cpu_read(board, fixed.as_ptr(), fixed.len(), changing.as_ptr(), changing.len(), addr) }
+    unsafe { vrc6_cpu_read(board, fixed.as_ptr(), fixed.len(), changing.as_ptr(), changing.len(), addr, bus) }
 }
 
 pub fn picture_read(board: &mut Board, fixed: &[u8], changing: &[u8], addr: u16) -> Peeked {

@@ -62,11 +62,14 @@ pub enum Revision {
     B = 1,
 }
 
-/// What a board is made with, beside its memory.
+/// What a board is made with, beside its memory. A host names what it wants, and takes the rest from the default:
+/// `Settings { revision: Revision::B, ..Settings::default() }`.
 #[derive(Debug, Clone, Copy, PartialEq, Eq, Default)]
 pub struct Settings {
     pub mirroring: Mirroring,
     pub revision: Revision,
+    /// A CPU read where nothing is there gives the byte that the bus holds, as a console does, and not 0.
+    pub open_bus: bool,
 }
 
 /// The level of the sound: silent if no channel is enabled, otherwise held if halted.
@@ -105,8 +108,11 @@ impl Vrc6 {
         self.board.irq.irq_pending
     }
 
-    pub fn cpu_read(&mut self, addr: u16) -> Result<u8, Refusal> {
-        let at = calls::cpu_read(&mut self.board, &self.fixed, &self.changing, addr);
+    /// `bus` is the byte that the CPU's bus holds from before. Only a board with [`Settings::open_bus`] gives it, where
+    /// nothing is there: at $0000 to $5FFF, at $6000 to $7FFF without PRG RAM or while mode bit 7 is clear, and from
+    /// $8000 up without PRG ROM.
+    pub fn cpu_read(&mut self, addr: u16, bus: u8) -> Result<u8, Refusal> {
+        let at = calls::cpu_read(&mut self.board, &self.fixed, &self.changing, addr, bus);
         unless(at.refusal, at.byte)
     }
 

@@ -44,15 +44,18 @@ pub struct NumberedSettings {
     pub mirroring: u8,
     /// 0 for A, 1 for B.
     pub revision: u8,
+    /// 0 or 1.
+    pub open_bus: u8,
 }
 
 impl From<Settings> for NumberedSettings {
     fn from(s: Settings) -> Self {
-        NumberedSettings { mirroring: s.mirroring as u8, revision: s.revision as u8 }
+        NumberedSettings { mirroring: s.mirroring as u8, revision: s.revision as u8, open_bus: s.open_bus as u8 }
     }
 }
 
-/// Bits 0 to 29 an offset that runs on from the fixed buffer into the changing one, bit 31: it takes writes.
+/// Bits 0 to 29 an offset that runs on from the fixed buffer into the changing one, bit 31: it takes writes. If all
+/// of it is 0, nothing is there.
 #[repr(C)]
 #[derive(Debug, Clone, Copy, PartialEq, Eq, Default)]
 pub struct Page(pub u32);
@@ -127,6 +130,8 @@ pub struct Board {
     pub banking: Banking,
     pub irq: VrcIrq,
     pub audio: Audio,
+    /// As the settings said; only create sets it.
+    pub open_bus: bool,
 }
 
 impl Default for Board {
@@ -138,6 +143,7 @@ impl Default for Board {
             banking: Banking::default(),
             irq: VrcIrq::default(),
             audio: Audio::default(),
+            open_bus: false,
         }
     }
 }
@@ -193,7 +199,7 @@ macro_rules! places {
 }
 
 places!(MemoryLayout: 20; prg_rom 0, chr 4, chr_writable 8, prg_ram 12, ciram 16);
-places!(NumberedSettings: 2; mirroring 0, revision 1);
+places!(NumberedSettings: 3; mirroring 0, revision 1, open_bus 2);
 places!(Page: 4; 0 0);
 places!(Banking: 17; banking_mode 0, prg_banks 1, chr 3, mirroring 11, nt_banks 12, revision_b 16);
 places!(VrcIrq: 10; reload 0, prescalar_counter 2, counter 4, irq_pending 5, enabled 6);
@@ -201,7 +207,7 @@ places!(VrcIrq: 10; enabled_after_ack 7, cycle_mode 8);
 places!(Pulse: 10; enabled 0, volume 1, duty_cycle 2, ignore_duty 3, frequency 4, timer 6, step 8, freq_shift 9);
 places!(Saw: 10; enabled 0, accum 1, accum_rate 2, frequency 4, timer 6, step 8, freq_shift 9);
 places!(Audio: 36; pulse1 0, pulse2 10, saw 20, halt 30, out 32);
-places!(Board: 404; layout 0, prg_pages 20, chr_pages 276, banking 340, irq 358, audio 368);
+places!(Board: 408; layout 0, prg_pages 20, chr_pages 276, banking 340, irq 358, audio 368, open_bus 404);
 places!(Tick: 2; ticked 0, refusal 1);
 places!(Peeked: 2; byte 0, refusal 1);
 places!(EncodedLevel: 8; level 0, name 4, refusal 5);

@@ -1,7 +1,7 @@
 //! The reference positions of layout S, and that each call answers.
 mod common;
-use common::{S, board_of};
-use vrc6::{Level, MemoryLayout, Revision, Vrc6};
+use common::{BUS, S, board_of, board_with};
+use vrc6::{Level, MemoryLayout, Revision, Settings, Vrc6};
 
 fn fresh() -> Vrc6 {
     board_of(S, Revision::A)
@@ -111,15 +111,64 @@ fn level_has_a_name() {
 #[test]
 fn bytes_and_pages() {
     let mut v = written(&[(0x8000, 3), (0xC000, 5), (0xB003, 0xA0), (0xD001, 9)]);
-    let read: Vec<u8> = [0x8000, 0xC000, 0xE000].iter().map(|&a| v.cpu_read(a).expect("accepted")).collect();
+    let read: Vec<u8> = [0x8000, 0xC000, 0xE000].iter().map(|&a| v.cpu_read(a, BUS).expect("accepted")).collect();
     assert_eq!(read, [48, 40, 120]);
     assert_eq!(v.picture_read(0x0400), Ok(9));
     assert_eq!(v.page_view(0x0400), Ok([9; 1024].as_slice()));
     v.cpu_write(0x6123, 77).expect("accepted");
-    assert_eq!(v.cpu_read(0x6123), Ok(77));
+    assert_eq!(v.cpu_read(0x6123, BUS), Ok(77));
     v.picture_write(0x2401, 33).expect("accepted");
     assert_eq!(v.page_view(0x2400).expect("accepted")[..3], [0x5A, 33, 0x5A]);
     // A write to ROM changes nothing.
     v.picture_write(0x0400, 1).expect("accepted");
     assert_eq!(v.picture_read(0x0400), Ok(9));
+}
+
+/// A board without open bus, and one with it.
+fn off_and_open(layout: MemoryLayout) -> (Vrc6, Vrc6) {
+    let off = board_of(layout, Revision::A);
+    (off, board_with(layout, Settings { open_bus: true, ..Settings::default() }))
+}
+
+#[test]
+fn work_ram_switched_off() {
+    let (mut off, mut open) = off_and_open(S);
+    let mut both = |addr, bus| (off.cpu_read(addr, bus), open.cpu_read(addr, bus));
+    for addr in [0x0000, 0x5FFF, 0x6000, 0x7FFF] {
+        for bus in [0x00, BUS, 0xFF] {
+            assert_eq!(both(addr, bus), (Ok(0), Ok(bus)));
+        }
+    }
+    assert_eq!(both(0xE000, BUS), (Ok(120), Ok(120)));
+    for (mode, off_byte, open_byte) in [(0xA0, 0x5A, 0x5A), (0x20, 0, BUS)] {
+        off.cpu_write(0xB003, mode).expect("accepted");
+        open.cpu_write(0xB003, mode).expect("accepted");
+        assert_eq!((off.cpu_read(0x6000, BUS), open.cpu_read(0x6000, BUS)), (Ok(off_byte), Ok(open_byte)));
+    }
+}
+
+#[test]
+fn open_bus_is_kept() {
+    let (_, mut open) = off_and_open(S);
+    open.cpu_write(0x6000, 7).expect("accepted");
+    open.cpu_write(0xC000, 7).expect("accepted");
+    open.clock().expect("accepted");
+    open.reset().expect("accepted");
+    assert!(open.board().open_bus);
+    assert_eq!(open.cpu_read(0x6000, BUS), Ok(BUS));
+    // The write to $6000 was stored nowhere.
+    open.cpu_write(0xB003, 0xA0).expect("accepted");
+    assert_eq!(open.cpu_read(0x6000, BUS), Ok(0x5A));
+}
+
+/// With no ROM nothing is there on either side, but for the nametables.
+#[test]
+fn open_bus_without_rom() {
+    let (mut off, mut open) = off_and_open(MemoryLayout { prg_rom: 0, chr: 0, prg_ram: 0, ..S });
+    for addr in (0..=0xFFFF).step_by(0x155) {
+        assert_eq!((off.cpu_read(addr, BUS), open.cpu_read(addr, BUS)), (Ok(0), Ok(BUS)));
+        let byte = if addr & 0x2000 == 0 { 0 } else { 0x5A };
+        assert_eq!((off.picture_read(addr), open.picture_read(addr)), (Ok(byte), Ok(byte)));
+        assert_eq!(off.page_view(addr), open.page_view(addr));
+    }
 }

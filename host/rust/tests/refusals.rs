@@ -1,6 +1,6 @@
 //! Bad input: each call is refused by its number, and leaves board and buffers as they were.
 mod common;
-use common::{S, board_of, changing, fixed};
+use common::{BUS, S, board_of, board_with, changing, fixed};
 use vrc6::records::{EncodedForecast, EncodedLevel, NumberedSettings, PageAt, Peeked, Tick};
 use vrc6::{Board, MemoryLayout, Refusal, Revision, Settings, Vrc6, calls, unless};
 
@@ -8,11 +8,11 @@ fn created(layout: MemoryLayout, fixed: Vec<u8>, changing: Vec<u8>) -> Result<Vr
     Vrc6::new(layout, Settings::default(), fixed, changing)
 }
 
-/// The calls that take buffers.
+/// The calls that take buffers. A refused read gives no bus byte.
 fn refused_with_buffers(board: Board, f: &[u8], c: &mut [u8], refusal: u8) {
     let (mut b, before) = (board, c.to_vec());
     for addr in [0x0000, 0x6000, 0x8000, 0xFFFF] {
-        assert_eq!(calls::cpu_read(&mut b, f, c, addr), Peeked { byte: 0, refusal });
+        assert_eq!(calls::cpu_read(&mut b, f, c, addr, BUS), Peeked { byte: 0, refusal });
         assert_eq!(calls::picture_read(&mut b, f, c, addr), Peeked { byte: 0, refusal });
         assert_eq!(calls::page_view(&mut b, f, c, addr), PageAt { offset: 0, changing: false, refusal });
         assert_eq!(calls::picture_write(&mut b, f, c, addr, 1), refusal);
@@ -63,9 +63,11 @@ fn creation() {
 #[test]
 fn numbers_that_name_nothing() {
     let (f, c) = (fixed(&S), changing(&S));
-    for (mirroring, revision) in [(5, 0), (9, 0), (255, 1), (0, 2), (4, 255)] {
-        let mut b = *board_of(S, Revision::B).board();
-        let settings = NumberedSettings { mirroring, revision };
+    let numbers = [(5, 0, 0), (9, 0, 1), (255, 1, 1), (0, 2, 0), (4, 255, 1), (0, 0, 2), (4, 1, 255)];
+    for (mirroring, revision, open_bus) in numbers {
+        let named = Settings { revision: Revision::B, open_bus: true, ..Settings::default() };
+        let mut b = *board_with(S, named).board();
+        let settings = NumberedSettings { mirroring, revision, open_bus };
         assert_eq!(calls::create(&mut b, S, settings, &f, &c), 3);
         assert_eq!(b, Board::default());
         refused_without_buffers(b);
@@ -75,13 +77,16 @@ fn numbers_that_name_nothing() {
 
 #[test]
 fn lengths_and_limits() {
-    let made = *board_of(S, Revision::A).board();
     let (f, mut c) = (fixed(&S), changing(&S));
-    refused_with_buffers(made, &f[1..], &mut c, 2);
-    refused_with_buffers(made, &f, &mut c[1..], 2);
-    refused_with_buffers(made, &[], &mut [], 2);
-    let layout = MemoryLayout { prg_rom: 262_145, ..S };
-    refused_with_buffers(Board { layout, ..made }, &f, &mut c, 1);
+    for open_bus in [false, true] {
+        let made = *board_with(S, Settings { open_bus, ..Settings::default() }).board();
+        assert_eq!(made.open_bus, open_bus);
+        refused_with_buffers(made, &f[1..], &mut c, 2);
+        refused_with_buffers(made, &f, &mut c[1..], 2);
+        refused_with_buffers(made, &[], &mut [], 2);
+        let layout = MemoryLayout { prg_rom: 262_145, ..S };
+        refused_with_buffers(Board { layout, ..made }, &f, &mut c, 1);
+    }
 }
 
 #[test]

@@ -1,17 +1,16 @@
 -- `vrc6_cpu_write` meets its contract: a walk of its MIR, by hand. The board's borrow is opened, and what is checked is read where it lies and passed to `write_byte` with the two slices, each at its own lifetime, share and ghost name, so that neither has to come back. Where that is not refused, the part that the address reaches takes its byte, and is stored; the borrow is closed at the board so made.
 -- All that the proof knows of the functions that are called is that they meet their contracts. Of `fixed`, `addr` and `val` nothing is kept to the exit (`stay-dropped`).
 -- Assumes nothing.
-use Rattle.host_calls.proofs.Kit.{_≡_, refl, ap, _∙_, [], _∷_, List, some′, none, Bool, ℕ, _<_, _^_, _+_, _*_, _/_, arith, lit<, lit≤, length, URA, fullShare, named, tyInt, w8, w16}
+use Rattle.host_calls.proofs.Kit.{_≡_, refl, ap, [], _∷_, List, some′, none, Bool, ℕ, _<_, _^_, lit<, length, URA, fullShare, named, tyInt, w8, w16}
 use Rattle.host_calls.proofs.Kit.{Val, vptr, vint, vbool, SProp, ent, emp, via, fst∗, snd∗, exE, id⊢, GName, Lft, Share, ftrue, flft, fobs, fbor, fat, Heap, Calls, Loops, WpFn}
 use Rattle.host_calls.proofs.Kit.{Tables, Memory, Routine, Atoms, sem, fact, Fun, AllOutlive, givenOf, tables, tablesOf, Given, ‵, raw, some, later, _⊛_, ⋆, _$_, _∵_, !, qed, by}
 use Rattle.host_calls.proofs.Kit.{move, keep, drop, use1, split, join, pick, fsplit, fsplit3, fjoin, fjoin3, feqI, suffices, frame, await, done, use0, rewrite, use2, feqL, look, init}
-use Rattle.host_calls.proofs.Kit.{stop, hop, from, load, of-opd, and-then, no-more, assigns, land, enter, alloc1, alloc0, params1, pass1, pass0, fld, lit, bin, un, addr, branches}
+use Rattle.host_calls.proofs.Kit.{stop, hop, from, load, of-opd, and-then, no-more, assigns, land, enter, alloc1, alloc0, params1, pass1, pass0, fld, lit, bin, addr, branches}
 use Rattle.host_calls.proofs.Kit.{first, returns-within, store, Body, whole, sub, look-in, agg, FmC, fmOf, WpFn-mono, owns, Is, shows, mem, yes, RefT, MutRef, now, ptr-vals}
 use Rattle.host_calls.proofs.Kit.{mut-tells, u8, u16, bool, owned, peeks, heard, nothing, only, onEntry, Meets, tripleOf, Triple, calls-at, ensured, lasts, says, Stays, stay-ref}
 use Rattle.host_calls.proofs.Kit.{walkOf, goes-ref, ends-at, walked, walk-meets, stay-dropped, goes-dropped, gave-slice, goes-gave-slice, uint-vals, uint-tells, uint-lawful}
 use Rattle.host_calls.proofs.Kit.{uint-makes, bool-makes, sliceVal, ShrSlice, Room, slice-vals, shr-slice-tells, MutSlice, finally, mut-slice-tells, entered, cited}
 use denote.Struct.Laws as LL
-use Rattle.memory_pages.specs.Pages.{unmapped}
 use Rattle.memory_pages.specs.declared.page.Page.{Page}
 use Rattle.memory_pages.proofs.page.Page as P
 use Rattle.memory_pages.proofs.page.Page.Laws as P′
@@ -34,7 +33,6 @@ use Rattle.vrc6_parts.specs.Parts.{partOf}
 use Rattle.vrc6.specs.declared.board.Board.{Board}
 use Rattle.vrc6.specs.Boards.{entryOf}
 use Rattle.vrc6.proofs.board.Board as B
-use Rattle.vrc6.proofs.board.Board.Laws as B′
 use Rattle.vrc6_parts.proofs.writes.write_byte as byte
 use Rattle.vrc6_parts.proofs.writes.write_byte.Symbol as byte-def
 use Rattle.vrc6_parts.proofs.writes.write_byte.Met as byte-thm
@@ -47,8 +45,9 @@ use Rattle.vrc6.proofs.board.Board.write_sound.Symbol as sound-def
 use Rattle.vrc6.proofs.board.Board.write_sound.Met as sound-thm
 use Rattle.vrc6.proofs.board.Board.write_line.Symbol as line-def
 use Rattle.vrc6.proofs.board.Board.write_line.Met as line-thm
-use Rattle.host_calls.proofs.Elements.{look-elem, big-lit, order, frees-all, answered}
-use Rattle.host_calls.proofs.Held.{layoutField, bankingField, irqField, audioField, revisionField, vB, opened, closed, entrySize, offset, table-in, vL, vP, vK, vI, vS, layout-of, banking-of, irq-of, audio-of, slot, slot-fits, bytes-fit, there, long-of, below-of, entry-of}
+use Rattle.host_calls.proofs.Elements.{order, frees-all, answered}
+use Rattle.host_calls.proofs.EntryWalk.{reads-entry}
+use Rattle.host_calls.proofs.Held.{layoutField, bankingField, irqField, audioField, revisionField, vB, opened, closed, vL, vP, vK, vI, vS, layout-of, banking-of, irq-of, audio-of, entry-of}
 use Rattle.host_calls.proofs.Slots.{BoardS, ByteS, FixedS, AddrS}
 use Rattle.host_calls.proofs.vrc6_cpu_write.Key.{name as #write-lent}
 use Rattle.host_calls.proofs.vrc6_cpu_write as lent
@@ -142,14 +141,7 @@ module _ {M : Type 1} (𝓤 : URA M) (H : Heap 𝓤) (A : Atoms 𝓤) (W : Given
         move ! (65 ∷ []) $ fsplit ! $ fsplit3 ! $ drop ! $ move ! (67 ∷ []) $ split ! $ move ! (2 ∷ 3 ∷ 0 ∷ []) $
         opened ! tt b o h (λ was.
         -- the entry, then the parts that are checked
-        assigns ! (bin ! (load ! (from ! (stop !)) (look ! 60 refl)) (big-lit ! (record { fits = lit< tt })) (lit< tt)) (from ! (stop !)) (init ! 42 refl (tt, record { fits = part-fits })) $
-        assigns ! (bin ! (load ! (from ! (stop !)) (look ! 42 refl)) (lit ! tt) (lit< tt)) (from ! (stop !)) (init ! 40 refl (tt, record { fits = slot-fits cpu n 16 (lit≤ tt) })) $
-        assigns ! (un ! (load ! (from ! (stop !)) (look ! 40 refl)) (record { fits = slot-fits cpu n 64 (lit≤ tt) })) (from ! (stop !)) (init ! 56 refl (tt, record { fits = slot-fits cpu n 64 (lit≤ tt) })) $
-        assigns ! (bin ! (load ! (from ! (stop !)) (look ! 56 refl)) (lit ! tt) (record { fits = bytes-fit cpu n })) (from ! (stop !)) (init ! 38 refl (tt, record { fits = bytes-fit cpu n })) $
-        assigns ! (addr ! (from ! (hop ! (look ! 66 refl) (fld ! refl (stop !))))) (from ! (stop !)) (init ! 36 refl (tt, tt)) $
-        assigns ! (bin ! (load ! (from ! (stop !)) (look ! 36 refl)) (load ! (from ! (stop !)) (look ! 38 refl)) tt) (from ! (stop !)) (init ! 34 refl (tt, tt)) $
-        assigns ! (of-opd ! (load ! (from ! (hop ! (look ! 34 refl) (stop !))) (look-elem ! 0 (P′.the-field-laws .val) (P.the-type .to) (h .«prg_pages») unmapped (table-in W b o h cpu .1) (long-of cpu h was) (slot cpu n) (slot cpu n * entrySize + (o + offset cpu)) (below-of cpu h was n) (there (slot cpu n) (o + offset cpu))))) (from ! (stop !)) (init ! 32 refl (LL.lawful P.the-type P′.the-laws 𝓤 H A W .typed (entryOf cpu h n) _ (entry-of cpu h was n) .0)) $
-        assigns ! (of-opd ! (load ! (from ! (stop !)) (look ! 32 refl))) (from ! (stop !)) (init ! 54 refl (LL.lawful P.the-type P′.the-laws 𝓤 H A W .typed (entryOf cpu h n) _ (entry-of cpu h was n) .0)) $
+        reads-entry cpu 𝓤 H A W C Λ _ b o h n _ 65 59 13 14 6 15 16 17 18 7 41 39 55 37 35 33 31 53 was n-fits refl refl $
         assigns ! (of-opd ! (load ! (from ! (hop ! (look ! 66 refl) (fld ! refl (stop !)))) (look-in ! 0 (sub ! layoutField refl (whole !))))) (from ! (stop !)) (init ! 30 refl (LL.lawful L.the-type L′.the-laws 𝓤 H A W .typed (h .layout) _ (layout-of h was) .0)) $
         assigns ! (of-opd ! (load ! (from ! (hop ! (look ! 66 refl) (fld ! refl (stop !)))) (look-in ! 0 (sub ! bankingField refl (whole !))))) (from ! (stop !)) (init ! 28 refl (LL.lawful K.the-type K′.the-laws 𝓤 H A W .typed (h .banking) _ (banking-of h was) .0)) $
         assigns ! (of-opd ! (load ! (from ! (hop ! (look ! 66 refl) (fld ! refl (stop !)))) (look-in ! 0 (sub ! irqField refl (whole !))))) (from ! (stop !)) (init ! 26 refl (LL.lawful I.the-type I′.the-laws 𝓤 H A W .typed (h .irq) _ (irq-of h was) .0)) $
@@ -206,9 +198,6 @@ module _ {M : Type 1} (𝓤 : URA M) (H : Heap 𝓤) (A : Atoms 𝓤) (W : Given
         move ! (0 ∷ 4 ∷ 5 ∷ 6 ∷ []) $ closed ! tt b o h was $
         returns-within ! Post refl (look ! 68 refl) $ move ! (order 32 6) $ frees-all ! (some′ _ ∷ some′ _ ∷ some′ _ ∷ some′ _ ∷ some′ _ ∷ some′ _ ∷ some′ _ ∷ some′ _ ∷ some′ _ ∷ some′ _ ∷ none ∷ none ∷ none ∷ some′ _ ∷ some′ _ ∷ some′ _ ∷ some′ _ ∷ some′ _ ∷ some′ _ ∷ some′ _ ∷ some′ _ ∷ some′ _ ∷ some′ _ ∷ some′ _ ∷ some′ _ ∷ some′ _ ∷ some′ _ ∷ none ∷ some′ _ ∷ none ∷ some′ _ ∷ none ∷ []) $
         keep ! (0 ∷ 1 ∷ 2 ∷ 3 ∷ 4 ∷ []) $ by ! (exits h 0 (lit< tt) (zs .1 .1 .1 .1 .1 .1 .0) l (done-told h (f .now) ys n v r (zs .1 .1 .1 .1 .1 .1 .0) h e accepted (λ w. none-told h (f .now) ys n v p at not-banks not-sound not-line))))))))))))))))))))))))))))))))))))))))))))))))
-      where
-        part-fits : n / 1024 < 2 ^ 16
-        part-fits = omega (arith, n-fits)
 
 lent-meets : {M : Type 1} (𝓤 : URA M) (H : Heap 𝓤) (A : Atoms 𝓤) → Given 𝓤 H A → (at-mem : Memory → SProp 𝓤) (run : Routine → Fun 𝓤) (𝓣 : Tables 𝓤 H) → Triple 𝓤 (𝓣 .C byte-def.name) (Byte 𝓤 H A at-mem run) → Triple 𝓤 (𝓣 .C reached-def.name) (Reached 𝓤 H A at-mem run) → Triple 𝓤 (𝓣 .C banks-def.name) (Taking 1 𝓤 H A) → Triple 𝓤 (𝓣 .C sound-def.name) (Taking 2 𝓤 H A) → Triple 𝓤 (𝓣 .C line-def.name) (Taking 3 𝓤 H A)
     → Meets 𝓤 H A lent.signature (WpFn 𝓤 H (𝓣 .C) (𝓣 .Λ) code.function) (lent.spec 𝓤 H A at-mem run)

@@ -10,7 +10,7 @@ revision-of-requires : tie.Need-revision-of-requires
 revision-of-requires c κs = search needs
 
 returns : tie.Need-returns
-returns c = rw (c .revision-of .ensures, c .before .mirroring-of .ensures)
+returns c = rw (c .before .revision-of .ensures, c .before .before .mirroring-of .ensures)
 
 pub settings-of-spec : {M : Type 1} → statement M
 settings-of-spec = tie.close (tie.spec mirroring-of-requires revision-of-requires returns)

@@ -48,17 +48,22 @@ returns-8 c = by-pair 6 (c .before .args .a) (c .before .args .b) (c .match .key
 
 returns-9 : tie.Need-returns-9
 unfolding callBy
-returns-9 c =
+returns-9 c = by-pair 7 (c .before .args .a) (c .before .args .b) (c .match .keys8) refl
+
+returns-10 : tie.Need-returns-10
+unfolding callBy
+returns-10 c =
     let x = c .before .args .what / 2 in
     let r = c .match .rest in
     rw (
-      ne-eqb x 0 (r .0 .0 .0 .0 .0 .0 .1),
-      ne-eqb x 1 (r .0 .0 .0 .0 .0 .1),
-      ne-eqb x 2 (r .0 .0 .0 .0 .1),
-      ne-eqb x 3 (r .0 .0 .0 .1),
-      ne-eqb x 4 (r .0 .0 .1),
-      ne-eqb x 5 (r .0 .1),
-      ne-eqb x 6 (r .1),
+      ne-eqb x 0 (r .0 .0 .0 .0 .0 .0 .0 .1),
+      ne-eqb x 1 (r .0 .0 .0 .0 .0 .0 .1),
+      ne-eqb x 2 (r .0 .0 .0 .0 .0 .1),
+      ne-eqb x 3 (r .0 .0 .0 .0 .1),
+      ne-eqb x 4 (r .0 .0 .0 .1),
+      ne-eqb x 5 (r .0 .0 .1),
+      ne-eqb x 6 (r .0 .1),
+      ne-eqb x 7 (r .1),
     )
 
 pub call-of-spec : {M : Type 1} → statement M
@@ -75,4 +80,5 @@ call-of-spec =
     returns-6
     returns-7
     returns-8
-    returns-9)
+    returns-9
+    returns-10)

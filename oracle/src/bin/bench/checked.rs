@@ -156,9 +156,12 @@ impl Checked {
     fn picture_page(&self, a: u16) -> Page {
         self.rig.m.chr_pages()[usize::from(a >> 10) & 15]
     }
+    /// With open bus it is the bus byte where nothing is there.
     #[inline(always)]
-    pub fn cpu_read(&self, a: u16) -> Byte {
-        match self.access_refusal(self.cpu_page(a), true) {
+    pub fn cpu_read(&self, a: u16, bus: u8) -> Byte {
+        let page = self.cpu_page(a);
+        match self.access_refusal(page, true) {
+            0 if self.rig.open_bus && page == Page::UNMAPPED => Byte { byte: bus, refusal: 0 },
             0 => Byte { byte: self.rig.cpu_read(a), refusal: 0 },
             refusal => Byte { byte: 0, refusal },
         }

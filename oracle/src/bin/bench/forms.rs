@@ -19,6 +19,11 @@ extern "C" fn rust_level(r: &Rig) -> f32 {
 extern "C" fn rust_cpu_read(r: &Rig, a: u16) -> u8 {
     r.cpu_read(a)
 }
+/// The original's read, and in front of it the driver's choice.
+#[inline(never)]
+extern "C" fn rust_bus_read(r: &Rig, a: u16, bus: u8) -> u8 {
+    r.bus_read(a, bus)
+}
 #[inline(never)]
 extern "C" fn rust_picture_read(r: &Rig, a: u16) -> u8 {
     r.pic_read(a)
@@ -37,8 +42,8 @@ extern "C" fn checked_level(c: &Checked) -> Level {
     c.level()
 }
 #[inline(never)]
-extern "C" fn checked_cpu_read(c: &Checked, a: u16) -> Byte {
-    c.cpu_read(a)
+extern "C" fn checked_cpu_read(c: &Checked, a: u16, bus: u8) -> Byte {
+    c.cpu_read(a, bus)
 }
 #[inline(never)]
 extern "C" fn checked_picture_read(c: &Checked, a: u16) -> Byte {
@@ -49,26 +54,27 @@ extern "C" fn checked_cpu_write(c: &mut Checked, a: u16, v: u8) -> u8 {
     c.cpu_write(a, v)
 }
 
-// Empty calls with the arguments of the original's calls, then of the proved board's. They are naked, so the compiler
-// sees no body and passes every argument.
+// Empty calls with the arguments of the original's calls, then of the proved board's: the one with a byte stands for
+// writes, whose byte it is, and for CPU reads that are given a bus byte. They are naked, so the compiler sees no body and
+// passes every argument.
 #[unsafe(naked)]
 extern "C" fn empty_board(_: &mut Board) -> u8 {
     naked_asm!("ret")
 }
 #[unsafe(naked)]
-extern "C" fn empty_read(_: &mut Board, _a: u16) -> u8 {
+extern "C" fn empty_address(_: &mut Board, _a: u16) -> u8 {
     naked_asm!("ret")
 }
 #[unsafe(naked)]
-extern "C" fn empty_write(_: &mut Board, _a: u16, _v: u8) -> u8 {
+extern "C" fn empty_byte(_: &mut Board, _a: u16, _v: u8) -> u8 {
     naked_asm!("ret")
 }
 #[unsafe(naked)]
-extern "C" fn empty_lent_read(_: &mut Board, _: *const u8, _: usize, _: *const u8, _: usize, _a: u16) -> u8 {
+extern "C" fn empty_lent_address(_: &mut Board, _: *const u8, _: usize, _: *const u8, _: usize, _a: u16) -> u8 {
     naked_asm!("ret")
 }
 #[unsafe(naked)]
-extern "C" fn empty_lent_write(_: &mut Board, _: *const u8, _: usize, _: *const u8, _: usize, _a: u16, _v: u8) -> u8 {
+extern "C" fn empty_lent_byte(_: &mut Board, _: *const u8, _: usize, _: *const u8, _: usize, _a: u16, _v: u8) -> u8 {
     naked_asm!("ret")
 }
 
@@ -80,13 +86,18 @@ pub struct EmptyLent(pub Lent);
 pub trait Form {
     fn call_clock(&mut self);
     fn call_level(&mut self);
-    fn call_cpu_read(&mut self, a: u16);
+    fn call_cpu_read(&mut self, a: u16, bus: u8);
+    /// For a board with open bus, which the original has not: there its driver chooses.
+    fn call_bus_read(&mut self, a: u16, bus: u8);
     fn call_picture_read(&mut self, a: u16);
     fn call_cpu_write(&mut self, a: u16, v: u8);
 }
 
 macro_rules! form {
-    ($host:ty, |$h:ident, $a:ident, $v:ident| $clock:expr, $level:expr, $cpu:expr, $picture:expr, $write:expr) => {
+    (
+        $host:ty, |$h:ident, $a:ident, $v:ident|
+        $clock:expr, $level:expr, $cpu:expr, $bus:expr, $picture:expr, $write:expr
+    ) => {
         #[allow(unused_variables)]
         impl Form for $host {
             #[inline(always)]
@@ -100,9 +111,14 @@ macro_rules! form {
                 black_box($level);
             }
             #[inline(always)]
-            fn call_cpu_read(&mut self, $a: u16) {
+            fn call_cpu_read(&mut self, $a: u16, $v: u8) {
                 let $h = self;
                 black_box($cpu);
+            }
+            #[inline(always)]
+            fn call_bus_read(&mut self, $a: u16, $v: u8) {
+                let $h = self;
+                black_box($bus);
             }
             #[inline(always)]
             fn call_picture_read(&mut self, $a: u16) {
@@ -117,30 +133,37 @@ macro_rules! form {
         }
     };
 }
-form!(NoCall, |h, a, v| (), (), (), (), ());
+form!(NoCall, |h, a, v| (), (), (), (), (), ());
 form!(
     Empty, |h, a, v|
     empty_board(&mut h.0.board),
     empty_board(&mut h.0.board),
-    empty_read(&mut h.0.board, a),
-    empty_read(&mut h.0.board, a),
-    empty_write(&mut h.0.board, a, v)
+    empty_address(&mut h.0.board, a),
+    empty_byte(&mut h.0.board, a, v),
+    empty_address(&mut h.0.board, a),
+    empty_byte(&mut h.0.board, a, v)
 );
+macro_rules! empty_lent {
+    ($call:ident, $h:ident, $($more:ident),+) => {{
+        let (b, f, c) = (&mut $h.0.board, &$h.0.fixed, &$h.0.changing);
+        $call(b, f.as_ptr(), f.len(), c.as_ptr(), c.len(), $($more),+)
+    }};
+}
 form!(
     EmptyLent, |h, a, v|
     empty_board(&mut h.0.board),
     empty_board(&mut h.0.board),
-    empty_lent_read(&mut h.0.board, h.0.fixed.as_ptr(), h.0.fixed.len(), h.0.changing.as_ptr(), h.0.changing.len(), a),
-    empty_lent_read(&mut h.0.board, h.0.fixed.as_ptr(), h.0.fixed.len(), h.0.changing.as_ptr(), h.0.changing.len(), a),
-    empty_lent_write(
-        &mut h.0.board, h.0.fixed.as_ptr(), h.0.fixed.len(), h.0.changing.as_ptr(), h.0.changing.len(), a, v
-    )
+    empty_lent!(empty_lent_byte, h, a, v),
+    empty_lent!(empty_lent_byte, h, a, v),
+    empty_lent!(empty_lent_address, h, a),
+    empty_lent!(empty_lent_byte, h, a, v)
 );
 form!(
     Rig, |h, a, v|
     rust_clock(h),
     rust_level(h).to_bits(),
     rust_cpu_read(h, a),
+    rust_bus_read(h, a, v),
     rust_picture_read(h, a),
     rust_cpu_write(h, a, v)
 );
@@ -148,8 +171,17 @@ form!(
     Checked, |h, a, v|
     checked_clock(h),
     checked_level(h),
-    checked_cpu_read(h, a),
+    checked_cpu_read(h, a, v),
+    checked_cpu_read(h, a, v),
     checked_picture_read(h, a),
     checked_cpu_write(h, a, v)
 );
-form!(Lent, |h, a, v| h.clock(), h.level(), h.cpu_read(a), h.picture_read(a), h.cpu_write(a, v));
+form!(
+    Lent, |h, a, v|
+    h.clock(),
+    h.level(),
+    h.cpu_read(a, v),
+    h.cpu_read(a, v),
+    h.picture_read(a),
+    h.cpu_write(a, v)
+);

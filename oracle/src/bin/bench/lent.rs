@@ -15,6 +15,7 @@ pub struct Board(pub [u8; 1024]);
 struct Settings {
     mirroring: u8,
     revision: u8,
+    open_bus: u8,
 }
 
 // A slice crosses as a pointer and a length.
@@ -28,7 +29,7 @@ unsafe extern "C" {
     fn vrc6_clock(b: *mut Board) -> Tick;
     fn vrc6_level(b: *mut Board) -> Level;
     fn vrc6_cpu_read(
-        b: *mut Board, fixed: *const u8, fixed_len: usize, changing: *const u8, changing_len: usize, a: u16,
+        b: *mut Board, fixed: *const u8, fixed_len: usize, changing: *const u8, changing_len: usize, a: u16, bus: u8,
     ) -> Byte;
     fn vrc6_picture_read(
         b: *mut Board, fixed: *const u8, fixed_len: usize, changing: *const u8, changing_len: usize, a: u16,
@@ -53,7 +54,8 @@ impl Lent {
     pub fn new(s: Setup, r: &Rig, blank: u8) -> Self {
         let fixed = [&[0; 1024], r.m.region_ref(Src::PrgRom), r.m.region_ref(Src::Chr)].concat();
         let mut l = Lent { board: Board([blank; 1024]), fixed, changing: r.m.ram().to_vec() };
-        let settings = Settings { mirroring: s.mirroring as u8, revision: u8::from(s.rev == Revision::B) };
+        let revision = u8::from(s.rev == Revision::B);
+        let settings = Settings { mirroring: s.mirroring as u8, revision, open_bus: u8::from(r.open_bus) };
         let (f, c) = (&l.fixed, &l.changing);
         let refusal = unsafe {
             vrc6_create(&mut l.board, Layout::of(&s), settings, f.as_ptr(), f.len(), c.as_ptr(), c.len())
@@ -65,11 +67,12 @@ impl Lent {
     pub fn none() -> Self {
         Lent { board: Board([0; 1024]), fixed: vec![], changing: vec![] }
     }
-    /// How many bytes of its room a board takes: up to the last one that creation writes.
+    /// How many bytes of its room a board takes: up to the last one that creation writes, in whole entries of 4 bytes.
     pub fn board_bytes(s: Setup) -> usize {
         let r = Rig::new(s);
         let (a, b) = (Lent::new(s, &r, 0x00), Lent::new(s, &r, 0xFF));
-        1 + (0..1024).rfind(|&i| a.board.0[i] == b.board.0[i]).expect("a board that creation writes")
+        let last = (0..1024).rfind(|&i| a.board.0[i] == b.board.0[i]).expect("a board that creation writes");
+        (last + 1).next_multiple_of(4)
     }
     #[inline(always)]
     pub fn clock(&mut self) -> Tick {
@@ -80,9 +83,9 @@ impl Lent {
         unsafe { vrc6_level(&mut self.board) }
     }
     #[inline(always)]
-    pub fn cpu_read(&mut self, a: u16) -> Byte {
+    pub fn cpu_read(&mut self, a: u16, bus: u8) -> Byte {
         let (f, c) = (&self.fixed, &self.changing);
-        unsafe { vrc6_cpu_read(&mut self.board, f.as_ptr(), f.len(), c.as_ptr(), c.len(), a) }
+        unsafe { vrc6_cpu_read(&mut self.board, f.as_ptr(), f.len(), c.as_ptr(), c.len(), a, bus) }
     }
     #[inline(always)]
     pub fn picture_read(&mut self, a: u16) -> Byte {

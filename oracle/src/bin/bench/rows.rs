@@ -6,21 +6,11 @@ use crate::{
 };
 use std::hint::black_box;
 use tetanes_shim::{
-    mapper::{Map, m024_m026_vrc6::Revision},
-    ppu::Mirroring,
-    rig::{Rig, Setup},
+    mapper::Map,
+    rig::{LAYOUT_S, Rig, Setup},
 };
 
-pub const S: Setup = Setup {
-    prg: 131_072,
-    chr: 131_072,
-    chr_writable: false,
-    ram: 8192,
-    ciram: 2048,
-    mirroring: Mirroring::Vertical,
-    rev: Revision::A,
-    seed: 1,
-};
+pub const S: Setup = Setup { seed: 1, ..LAYOUT_S };
 
 /// Two boards for each form; all rows but one use the first alone.
 pub struct Hosts {
@@ -44,13 +34,16 @@ pub struct Row {
     pub name: &'static str,
     /// Rows with the same loop have the same shape.
     pub shape: &'static str,
+    /// Whether the boards are made with open bus.
+    open_bus: bool,
     setup: fn() -> Vec<(u16, u8)>,
     clocks: u32,
     /// The loop over each form.
     pub runs: [Run; 6],
 }
 
-// The loops. All arguments go through black_box, the board's pointer too.
+// The loops. All arguments go through black_box, the board's pointer too. A bus byte is the low byte of such an address,
+// so that a form that takes none has nothing to do for it.
 #[inline(never)]
 fn clock<F: Form>(f: &mut [F; 2], n: u32) {
     for _ in 0..n {
@@ -73,7 +66,15 @@ fn level<F: Form>(f: &mut [F; 2], n: u32) {
 #[inline(never)]
 fn cpu_read<F: Form>(f: &mut [F; 2], n: u32) {
     for k in 0..n {
-        black_box(&mut f[0]).call_cpu_read(black_box(0x8000 | k as u16));
+        let (form, a) = (black_box(&mut f[0]), black_box(0x8000 | k as u16));
+        form.call_cpu_read(a, a as u8);
+    }
+}
+#[inline(never)]
+fn bus_read<F: Form>(f: &mut [F; 2], n: u32) {
+    for k in 0..n {
+        let (form, a) = (black_box(&mut f[0]), black_box(0x6000 | k as u16 & 0x1FFF));
+        form.call_bus_read(a, a as u8);
     }
 }
 #[inline(never)]
@@ -131,6 +132,7 @@ macro_rules! row {
         Row {
             name: $name,
             shape: $shape,
+            open_bus: false,
             setup: $setup,
             clocks: $clocks,
             runs: [
@@ -151,6 +153,7 @@ pub const ROWS: &[Row] = &[
     row!("clock, cycle mode, three channels", "clock", cycle, 0, clock),
     row!("clock, worst case: all periods 1", "clock", short, 0, clock),
     row!("CPU read", "CPU read", ram, 0, cpu_read),
+    Row { open_bus: true, ..row!("CPU read, RAM off, open bus", "CPU read, open bus", nothing, 0, bus_read) },
     row!("picture read", "picture read", nothing, 0, picture_read),
     row!("CPU write to RAM", "CPU write to RAM", ram, 0, ram_write),
     row!("CPU write to $F000", "CPU write to a register", ram, 0, register_write::<0xF000, _>),
@@ -162,8 +165,8 @@ pub const ROWS: &[Row] = &[
 ];
 
 impl Hosts {
-    fn new() -> Self {
-        let rig = Rig::new(S);
+    fn new(open_bus: bool) -> Self {
+        let rig = Rig { open_bus, ..Rig::new(S) };
         let two = || [rig.clone(), rig.clone()];
         Hosts {
             no_call: [NoCall([0; 1024]), NoCall([0; 1024])],
@@ -175,7 +178,7 @@ impl Hosts {
         }
     }
     pub fn of(row: &Row) -> Self {
-        let mut h = Hosts::new();
+        let mut h = Hosts::new(row.open_bus);
         for i in 0..2 {
             for (a, v) in (row.setup)() {
                 h.write(i, a, v);
@@ -197,12 +200,12 @@ impl Hosts {
         assert_eq!((c.ticked, c.refusal), (ticked, 0), "checked clock");
         assert_eq!(l, c, "clock");
     }
-    fn read(&mut self, i: usize, a: u16) {
+    fn read(&mut self, i: usize, a: u16, bus: u8) {
         let (r, c, l) = (&self.rig[i], &self.checked[i], &mut self.lent[i]);
-        let (cpu, picture) = (c.cpu_read(a), c.picture_read(a));
-        assert_eq!((cpu.byte, cpu.refusal), (r.cpu_read(a), 0), "checked read {a:04x}");
+        let (cpu, picture) = (c.cpu_read(a, bus), c.picture_read(a));
+        assert_eq!((cpu.byte, cpu.refusal), (r.bus_read(a, bus), 0), "checked read {a:04x}");
         assert_eq!((picture.byte, picture.refusal), (r.pic_read(a), 0), "checked picture read {a:04x}");
-        assert_eq!(l.cpu_read(a), cpu, "read {a:04x}");
+        assert_eq!(l.cpu_read(a, bus), cpu, "read {a:04x}");
         assert_eq!(l.picture_read(a), picture, "picture read {a:04x}");
     }
     fn picture_write(&mut self, i: usize, a: u16, v: u8) {
@@ -217,9 +220,15 @@ impl Hosts {
     }
 }
 
-/// The three forms give the same answers on one long list of calls, so that the bench compares like with like.
+/// The three forms give the same answers on two long lists of calls, without open bus and with it, so that the bench
+/// compares like with like.
 pub fn agree(calls: u32) {
-    let mut h = Hosts::new();
+    for open_bus in [false, true] {
+        agree_on(Hosts::new(open_bus), calls / 2);
+    }
+}
+
+fn agree_on(mut h: Hosts, calls: u32) {
     let mut x = 1u32;
     for k in 0..calls {
         x = x.wrapping_mul(1_664_525).wrapping_add(1_013_904_223);
@@ -228,7 +237,7 @@ pub fn agree(calls: u32) {
             0 => h.write(0, a, v),
             1 => h.write(0, 0x8000 | a & 0x7003, v),
             2 => h.picture_write(0, a, v),
-            3 => h.read(0, a),
+            3 => h.read(0, a, v),
             4 => h.level(0),
             _ => h.clock(0),
         }
@@ -243,7 +252,7 @@ fn refused(c: &mut Checked, l: &mut Lent) {
     l.changing.pop();
     assert_eq!(l.cpu_write(0x6000, 0), 2, "a buffer too short");
     c.layout.chr = 1;
-    assert_eq!((c.cpu_write(0x6000, 0), c.cpu_read(0x6000).refusal), (2, 2), "checked: a buffer too long");
+    assert_eq!((c.cpu_write(0x6000, 0), c.cpu_read(0x6000, 0).refusal), (2, 2), "checked: a buffer too long");
     c.layout.chr = 262_145;
     assert_eq!((c.cpu_write(0x6000, 0), c.picture_read(0).refusal), (1, 1), "checked: a layout beyond its limits");
     c.layout.chr = 131_072;

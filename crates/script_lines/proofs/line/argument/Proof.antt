@@ -64,6 +64,12 @@ slice-aggregate-name-after-7 c = search needs
 name-after-requires-7 : tie.Need-name-after-requires-7
 name-after-requires-7 c κs = search needs
 
+slice-aggregate-name-after-8 : tie.Need-slice-aggregate-name-after-8
+slice-aggregate-name-after-8 c = search needs
+
+name-after-requires-8 : tie.Need-name-after-requires-8
+name-after-requires-8 c κs = search needs
+
 value-after-requires : tie.Need-value-after-requires
 value-after-requires c κs = search needs
 
@@ -111,40 +117,45 @@ returns-9 c = by-letter 108 _ (c .before .before .match .keys9) (c .name-after4 
 
 returns-10 : tie.Need-returns-10
 unfolding argumentBy
-returns-10 c = by-letter 110 _ (c .before .before .match .keys10) (c .name-after5 .ensures)
+returns-10 c = by-letter 121 _ (c .before .before .match .keys10) (c .name-after5 .ensures)
 
 returns-11 : tie.Need-returns-11
 unfolding argumentBy
-returns-11 c = by-letter 102 _ (c .before .before .match .keys11) (c .name-after6 .ensures)
+returns-11 c = by-letter 110 _ (c .before .before .match .keys11) (c .name-after6 .ensures)
 
 returns-12 : tie.Need-returns-12
 unfolding argumentBy
-returns-12 c = by-letter 99 _ (c .before .before .match .keys12) (c .name-after7 .ensures)
+returns-12 c = by-letter 102 _ (c .before .before .match .keys12) (c .name-after7 .ensures)
 
 returns-13 : tie.Need-returns-13
 unfolding argumentBy
-returns-13 c = by-letter 113 _ (c .before .match .keys13) (c .value-after .ensures)
+returns-13 c = by-letter 99 _ (c .before .before .match .keys13) (c .name-after8 .ensures)
 
 returns-14 : tie.Need-returns-14
 unfolding argumentBy
-returns-14 c = by-letter 116 _ (c .before .match .keys14) (c .text-after .ensures)
+returns-14 c = by-letter 113 _ (c .before .match .keys14) (c .value-after .ensures)
 
 returns-15 : tie.Need-returns-15
 unfolding argumentBy
-returns-15 c =
+returns-15 c = by-letter 116 _ (c .before .match .keys15) (c .text-after .ensures)
+
+returns-16 : tie.Need-returns-16
+unfolding argumentBy
+returns-16 c =
     let x = c .before .before .before .args .letter in
     let r = c .before .match .rest in
     c .none-after .ensures
     ∙ rw (
-      ne-eqb x 97 (r .0 .0 .0 .0 .0 .0 .0 .0 .0 .0 .0 .0 .0 .1),
-      ne-eqb x 98 (r .0 .0 .0 .0 .0 .0 .0 .0 .0 .0 .0 .0 .1),
-      ne-eqb x 120 (r .0 .0 .0 .0 .0 .0 .0 .0 .0 .0 .0 .1),
-      ne-eqb x 100 (r .0 .0 .0 .0 .0 .0 .0 .0 .0 .0 .1),
-      ne-eqb x 109 (r .0 .0 .0 .0 .0 .0 .0 .0 .0 .1),
-      ne-eqb x 119 (r .0 .0 .0 .0 .0 .0 .0 .0 .1),
-      ne-eqb x 118 (r .0 .0 .0 .0 .0 .0 .0 .1),
-      ne-eqb x 107 (r .0 .0 .0 .0 .0 .0 .1),
-      ne-eqb x 108 (r .0 .0 .0 .0 .0 .1),
+      ne-eqb x 97 (r .0 .0 .0 .0 .0 .0 .0 .0 .0 .0 .0 .0 .0 .0 .1),
+      ne-eqb x 98 (r .0 .0 .0 .0 .0 .0 .0 .0 .0 .0 .0 .0 .0 .1),
+      ne-eqb x 120 (r .0 .0 .0 .0 .0 .0 .0 .0 .0 .0 .0 .0 .1),
+      ne-eqb x 100 (r .0 .0 .0 .0 .0 .0 .0 .0 .0 .0 .0 .1),
+      ne-eqb x 109 (r .0 .0 .0 .0 .0 .0 .0 .0 .0 .0 .1),
+      ne-eqb x 119 (r .0 .0 .0 .0 .0 .0 .0 .0 .0 .1),
+      ne-eqb x 118 (r .0 .0 .0 .0 .0 .0 .0 .0 .1),
+      ne-eqb x 107 (r .0 .0 .0 .0 .0 .0 .0 .1),
+      ne-eqb x 108 (r .0 .0 .0 .0 .0 .0 .1),
+      ne-eqb x 121 (r .0 .0 .0 .0 .0 .1),
       ne-eqb x 110 (r .0 .0 .0 .0 .1),
       ne-eqb x 102 (r .0 .0 .0 .1),
       ne-eqb x 99 (r .0 .0 .1),
@@ -175,6 +186,8 @@ argument-spec =
     name-after-requires-6
     slice-aggregate-name-after-7
     name-after-requires-7
+    slice-aggregate-name-after-8
+    name-after-requires-8
     value-after-requires
     text-after-requires
     none-after-requires
@@ -192,4 +205,5 @@ argument-spec =
     returns-12
     returns-13
     returns-14
-    returns-15)
+    returns-15
+    returns-16)

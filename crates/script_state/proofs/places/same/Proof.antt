@@ -5,10 +5,10 @@ use Rattle.script_state.proofs.places.same.Statement.{statement}
 use Rattle.script_state.proofs.places.same.Tie as tie
 
 abbrev Inv-loop : tie.InvT-loop
-Inv-loop one other i₀ i = i ≤ 141
+Inv-loop one other i₀ i = i ≤ 142
 
 abbrev μ-loop : tie.MeasureT-loop
-μ-loop one other i₀ i = 141 - i
+μ-loop one other i₀ i = 142 - i
 
 loop-holds : tie.Need-loop-holds Inv-loop μ-loop
 loop-holds c = search needs
