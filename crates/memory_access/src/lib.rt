@@ -1,13 +1,14 @@
 // One access to the two lent buffers through an entry: check, byte, store and view (tetanes-core's memory.rs, `prg_peek`,
 // `prg_write`, `chr_peek`, `chr_write`). The functions take the parts of a board that they need, layout, entry and
-// buffers; `store` alone checks nothing.
+// buffers; `byte_shown` and `store` check nothing.
 use memory_layout::MemoryLayout;
 use memory_pages::Page;
 ghost use mathlib.Core.Path.{_≡_};
 ghost use mathlib.Core.List.{_++_};
-ghost use Prim.Native.Nat.{_+_, _<_};
+ghost use Prim.Native.Nat.{_+_, _≤_, _<_};
 ghost use lib.ListN.{getD, length};
-ghost use Rattle.memory_access.specs.Access.{accessRefusal, peeked, plainRefusal, stored, viewed, written};
+ghost use Rattle.memory_pages.specs.Pages.{offset};
+ghost use Rattle.memory_access.specs.Access.{accessRefusal, byteAt, peeked, plainRefusal, stored, viewed, written};
 ghost use Rattle.memory_access.specs.Required.{Placed};
 
 // The number of the refusal that a call through page meets, 0 for none; others says whether what else it checks is in range.
@@ -42,6 +43,15 @@ fn byte_at(fixed: &[u8], changing: &[u8], at: usize) -> u8
     changing[rest]
 }
 
+// The byte that addr shows through an entry that is checked already.
+pub fn byte_shown(page: Page, fixed: &[u8], changing: &[u8], addr: u16) -> u8
+    requires { ⌜ offset page + 1024 ≤ length (now fixed) + length (now changing) ⌝ }
+    ensures { λ r. ⌜ r ≡ byteAt page (now (fixed .entry)) (now (changing .entry)) addr ⌝ }
+{
+    let at = page.offset() as usize + (addr % 1024) as usize;
+    byte_at(fixed, changing, at)
+}
+
 // A byte that was asked for, 0 where it is refused, and the refusal's number.
 #[repr(C)]
 pub struct Peeked {
@@ -57,8 +67,7 @@ pub fn peek(layout: MemoryLayout, page: Page, fixed: &[u8], changing: &[u8], add
     if refusal != 0 {
         return Peeked { byte: 0, refusal };
     }
-    let at = page.offset() as usize + (addr % 1024) as usize;
-    let byte = byte_at(fixed, changing, at);
+    let byte = byte_shown(page, fixed, changing, addr);
     Peeked { byte, refusal }
 }
 

@@ -46,7 +46,7 @@ as-rust (byCpu bus) x a h =
     let e = entryOf cpu b a in
     let byte = byteAt e (x .fixed) (x .changing) a in
     let off = ap (λ (s : Bool). handed (byCpu bus) s (found e) byte) h ∙ off-shows bus (found e) byte in
-    ap (λ (p : Peeked). record { board = b; byte = p .byte; refusal = p .refusal }) (sym (as-shown bus (b .«open_bus») (b .layout) e (x .fixed) (x .changing) a (λ z. off)))
+    ap (λ (p : Peeked). record { board = b; byte = p .byte; refusal = p .refusal }) (as-shown bus (b .«open_bus») (b .layout) e (x .fixed) (x .changing) a off)
 as-rust byPicture x a h = refl
 
 -- ---- every call keeps the setting, and leaves the same beside it

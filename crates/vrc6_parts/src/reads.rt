@@ -1,15 +1,56 @@
 // What reads give through an entry, wherever it was taken from. Where the lookup finds nothing, each side decides.
 use memory_access::Peeked;
+use memory_access::access_refusal;
+use memory_access::byte_shown;
 use memory_access::peek;
 use memory_layout::MemoryLayout;
 use memory_pages::Lookup;
 use memory_pages::Page;
 ghost use mathlib.Core.Path.{_≡_};
-ghost use Rattle.memory_access.specs.Access.{peeked};
-ghost use Rattle.vrc6_parts.specs.Reads.{byCpu, peekedBy};
+ghost use Prim.Native.Nat.{_+_, _%_, _/_, _≤_};
+ghost use lib.ListN.{length};
+ghost use Rattle.memory_pages.specs.Pages.{found, offset};
+ghost use Rattle.memory_access.specs.Access.{byteAt, peeked};
+ghost use Rattle.vrc6_parts.specs.Reads.{byCpu, handed, peekedBy};
 
-// What a CPU read gives through an entry, by the parts of a board that it needs. With the setting on it hands back the bus
-// byte where nothing is there; off, that shows the fixed buffer's first page, which creation wants zero.
+// The byte that a CPU read hands back through an entry that is checked already: with the setting on, where nothing is there,
+// the bus byte.
+fn hand_back(entry: Page, open_bus: bool, fixed: &[u8], changing: &[u8], addr: u16, bus: u8) -> u8
+    requires { ⌜ offset entry + 1024 ≤ length (now fixed) + length (now changing) ⌝ }
+    ensures { λ r. ⌜ r ≡ handed (byCpu bus) «open_bus» (found entry) (byteAt entry (now (fixed .entry)) (now (changing .entry)) addr) ⌝ }
+{
+    if open_bus {
+        return match entry.lookup() {
+            Lookup::Unmapped => bus,
+            Lookup::Mapped(page) => byte_shown(page, fixed, changing, addr),
+        };
+    }
+    byte_shown(entry, fixed, changing, addr)
+}
+
+// What a CPU read gives, in one number: its byte, and 256 times the number of its refusal. So its ways meet in one word, and
+// not in a struct that each of them fills.
+fn cpu_number(
+    layout: MemoryLayout,
+    entry: Page,
+    open_bus: bool,
+    fixed: &[u8],
+    changing: &[u8],
+    addr: u16,
+    bus: u8,
+) -> u16
+    ensures { λ r. ⌜ (r % 256 ≡ peekedBy (byCpu bus) «open_bus» layout entry (now (fixed .entry)) (now (changing .entry)) addr .byte)
+        × (r / 256 ≡ peekedBy (byCpu bus) «open_bus» layout entry (now (fixed .entry)) (now (changing .entry)) addr .refusal) ⌝ }
+{
+    let refusal = access_refusal(layout, entry, fixed.len(), changing.len(), true);
+    if refusal != 0 {
+        return refusal as u16 * 256;
+    }
+    hand_back(entry, open_bus, fixed, changing, addr, bus) as u16
+}
+
+// What a CPU read gives through an entry, by the parts of a board that it needs. Without the setting an unmapped entry shows
+// the fixed buffer's first page, which creation wants zero.
 pub fn cpu_peek(
     layout: MemoryLayout,
     entry: Page,
@@ -21,17 +62,11 @@ pub fn cpu_peek(
 ) -> Peeked
     ensures { λ r. ⌜ r ≡ peekedBy (byCpu bus) «open_bus» layout entry (now (fixed .entry)) (now (changing .entry)) addr ⌝ }
 {
-    let shown = peek(layout, entry, fixed, changing, addr);
-    if open_bus & (shown.refusal == 0) {
-        return match entry.lookup() {
-            Lookup::Unmapped => Peeked {
-                byte: bus,
-                refusal: 0,
-            },
-            Lookup::Mapped(page) => shown,
-        };
+    let number = cpu_number(layout, entry, open_bus, fixed, changing, addr, bus);
+    Peeked {
+        byte: (number % 256) as u8,
+        refusal: (number / 256) as u8,
     }
-    shown
 }
 
 // What a picture read gives, with the setting or without it.

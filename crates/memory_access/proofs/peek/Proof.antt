@@ -5,9 +5,7 @@ use Rattle.base_shared.proofs.Tests.{unless-refused, unless-done}
 use mathlib.Core.Bool.{true}
 use lib.ListN.{length}
 use denote.Ref.{now}
-use Prim.Native.Nat.{ℕ}
-use native.Mathlib.Omega.{arith}
-use mathlib.Core.Path.{_≡_, sym, ap, _∙_}
+use mathlib.Core.Path.{sym, _∙_}
 use borrow.Author.Needs.{needs}
 use Rattle.memory_access.proofs.peek.Statement.{statement}
 use Rattle.memory_access.proofs.peek.Tie as tie
@@ -22,41 +20,18 @@ returns c =
     let n = plainRefusal (a .layout) (a .page) (now (a .fixed)) (now (a .changing)) in
     λ i. record { byte = sym (unless-refused (byteAt (a .page) (now (a .fixed)) (now (a .changing)) (a .addr)) 0 n _ e (c .if1 .taken)) i; refusal = e i }
 
-offset-requires : tie.Need-offset-requires
-offset-requires c κs = search needs
-
-cast-at : tie.Need-cast-at
-cast-at c = search needs
-
-cast-at-2 : tie.Need-cast-at-2
-cast-at-2 c = search needs
-
-add-at : tie.Need-add-at
-add-at c = search needs
-
-byte-at-requires : tie.Need-byte-at-requires
-byte-at-requires c κs =
-    let a = c .before .before .before .before .before .args in
-    omega (arith, c .offset .ensures, inside (a .layout) (a .page) (length (now (a .fixed))) (length (now (a .changing))) true (sym (c .before .before .access-refusal .ensures) ∙ c .before .if1 .left))
+byte-shown-requires : tie.Need-byte-shown-requires
+byte-shown-requires c κs =
+    let a = c .before .before .before .before .args in
+    inside (a .layout) (a .page) (length (now (a .fixed))) (length (now (a .changing))) true (sym (c .before .access-refusal .ensures) ∙ c .if1 .left)
 
 returns-2 : tie.Need-returns-2
 returns-2 c =
-    let a = c .before .before .before .before .before .before .args in
-    let e = c .before .before .before .access-refusal .ensures in
+    let a = c .before .before .before .before .before .args in
+    let e = c .before .before .access-refusal .ensures in
     let n = plainRefusal (a .layout) (a .page) (now (a .fixed)) (now (a .changing)) in
     let b = byteAt (a .page) (now (a .fixed)) (now (a .changing)) (a .addr) in
-    let is : c .byte-at .result ≡ b = c .byte-at .ensures ∙ rw (c .before .offset .ensures) in
-    λ i. record { byte = (is ∙ sym (unless-done b 0 n _ e (c .before .before .if1 .left))) i; refusal = e i }
+    λ i. record { byte = (c .byte-shown .ensures ∙ sym (unless-done b 0 n _ e (c .before .if1 .left))) i; refusal = e i }
 
 pub peek-spec : {M : Type 1} → statement M
-peek-spec =
-    tie.close
-    (tie.spec
-    access-refusal-requires
-    returns
-    offset-requires
-    cast-at
-    cast-at-2
-    add-at
-    byte-at-requires
-    returns-2)
+peek-spec = tie.close (tie.spec access-refusal-requires returns byte-shown-requires returns-2)
