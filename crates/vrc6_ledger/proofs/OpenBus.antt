@@ -17,7 +17,7 @@ use Rattle.registers.specs.Decode.{decode}
 use Rattle.irq.specs.declared.VrcIrq.{VrcIrq}
 use Rattle.audio.specs.declared.Audio.{Audio}
 use Rattle.vrc6_tables.specs.Tables.{cpuEntries}
-use Rattle.vrc6_tables.proofs.Nothing.{nothing-law}
+use Rattle.vrc6_tables.proofs.Nothing.{nothing-at-law}
 use Rattle.vrc6_parts.specs.Reads.{Caller, byCpu, byPicture, handed}
 use Rattle.vrc6_parts.proofs.Handed.{off-shows, as-shown}
 use Rattle.vrc6.specs.declared.board.Board.{Board}
@@ -183,7 +183,7 @@ read-law c h ks byPicture a = ap ofRead (whole-read c h ks byPicture a (never-re
 
 -- ---- where nothing is there
 pub nothing-there-law : NothingThereLaw
-nothing-there-law c h ks a low = nothing-law (c .layout) (bankingOf (ledgerOf c ks)) (accepted c h .limits) a low
+nothing-there-law c h ks a low = nothing-at-law (c .layout) (bankingOf (ledgerOf c ks)) (accepted c h .limits) a low
 
 pub open-law : OpenLaw
 open-law l within m r bus =

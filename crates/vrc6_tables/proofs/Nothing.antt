@@ -25,7 +25,7 @@ use Rattle.memory_rule.proofs.Shown.{ends}
 use Rattle.memory_tables.specs.Paging.{nothing, window}
 use Rattle.vrc6_tables.specs.Required.{Below, ramEntries}
 use Rattle.vrc6_tables.specs.Tables.{cpuEntries}
-use Rattle.vrc6_tables.specs.Laws.{NothingLaw}
+use Rattle.vrc6_tables.specs.Laws.{NothingAtLaw}
 
 -- ---- one entry
 -- an entry of another offset than 0 is not the unmapped one
@@ -102,9 +102,9 @@ module _ (q r : Bool) (address : ℕ) (low : address < 2 ^ 16) where
       behind 24 true up n (omega (arith, ltb-false)) ∙ behind 8 q (replicate 32 r) (n - 24) (omega (arith, ltb-false))
       ∙ getD-replicate 32 (n - 24 - 8) r true (omega arith)
 
-pub nothing-law : NothingLaw
+pub nothing-at-law : NothingAtLaw
 unfolding cpuEntries
-nothing-law l b h address low =
+nothing-at-law l b h address low =
     let on = bit 7 (b .«banking_mode») in
     let k = address / 1024 % 64 in
     sym (List·getD-map isUnmapped (cpuEntries l b) k unmapped)

@@ -37,7 +37,7 @@ nothingAt l b address =
     (cond (ltb address 0x8000) (not (bit 7 (b .«banking_mode»)) || eqb (l .«prg_ram») 0) (eqb (l .«prg_rom») 0))
 
 -- of a layout within its limits the entry of a CPU address is the unmapped one exactly where nothing is there (02, change 1; 01, Paging 2)
-abbrev pub NothingLaw : Type 0
-NothingLaw =
+abbrev pub NothingAtLaw : Type 0
+NothingAtLaw =
     (l : MemoryLayout) (b : Banking) → withinLimits l ≡ true → (address : ℕ) → address < 2 ^ 16
     → isUnmapped (entryFor cpu (cpuEntries l b) address) ≡ nothingAt l b address
