@@ -33,7 +33,7 @@ abbrev pub revisionNumbered : ℕ → Revision
 revisionNumbered zero = A
 revisionNumbered (suc n) = B
 
--- the numbers of settings that have these of a mirroring and a revision, and of what was added nothing
+-- the numbers of settings that have these of a mirroring and a revision, and no open bus (02, change 1)
 abbrev pub numbered : (mirroring revision : ℕ) → NumberedSettings
 numbered m r = record { mirroring = m; revision = r; «open_bus» = 0 }
 
@@ -51,7 +51,7 @@ abbrev pub numbersOf : Settings → NumberedSettings
 numbersOf s =
     record { mirroring = mirroringNumber (s .mirroring); revision = flag (isB (s .revision)); «open_bus» = flag (s .«open_bus») }
 
--- each number names something: 0 to 4, 0 or 1, and 0 or 1
+-- each number names something: 0 to 4, 0 or 1, and 0 or 1 (02, change 1)
 abbrev pub settingsNamed : NumberedSettings → Bool
 settingsNamed n = leb (n .mirroring) 4 && leb (n .revision) 1 && leb (n .«open_bus») 1
 

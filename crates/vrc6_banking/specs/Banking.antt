@@ -27,7 +27,7 @@ abbrev pub isB : Revision → Bool
 isB A = false
 isB B = true
 
--- the settings of creation that have a mirroring and a revision, and of what was added nothing (01, The board's calls 1; 02, change 1)
+-- the settings of creation that have a mirroring and a revision, and no open bus (01, The board's calls 1; 02, change 1)
 abbrev pub settingsOf : Mirroring → Revision → Settings
 settingsOf m r = record { mirroring = m; revision = r; «open_bus» = false }
 

@@ -19,7 +19,7 @@ pub enum Revision {
 pub struct Settings {
     pub mirroring: Mirroring,
     pub revision: Revision,
-    // A CPU read where nothing is there hands back the bus byte, as a console does; off, it shows 0.
+    // A CPU read where nothing is there hands back the bus byte, as a console does; off, it shows the page of zeros.
     pub open_bus: bool,
 }
 

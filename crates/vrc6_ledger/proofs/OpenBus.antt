@@ -145,12 +145,12 @@ decided false true bus byte e = refl
 decided false false bus byte e = refl
 
 -- what a caller is handed through the ledger's entry
-noted : (c : Creation) (l : Ledger) (k : Caller) (a : ℕ)
+read-noted : (c : Creation) (l : Ledger) (k : Caller) (a : ℕ)
     → let e = entryFor (sideOf k) (entries (sideOf k) c l) a in handed k (l .origin .«open_bus») (found e) (byteAt e (c .fixed) (l .copy) a) ≡ readNoted c l k a
-noted c l (byCpu bus) a =
+read-noted c l (byCpu bus) a =
     let e = entryFor cpu (entries cpu c l) a in
     decided (l .origin .«open_bus») (isUnmapped e) bus (byteNoted c l e a) e
-noted c l byPicture a = refl
+read-noted c l byPicture a = refl
 
 module _ (c : Creation) (h : createRefusal c ≡ 0) (ks : List Call) where
   abbrev x : State
@@ -164,7 +164,7 @@ module _ (c : Creation) (h : createRefusal c ≡ 0) (ks : List Call) where
       → byteRead k (shown c l q s) a .byte ≡ readNoted c l k a
   byte-shown (byCpu bus) a q s z =
       let e = entryFor cpu (entries cpu c l) a in
-      ap (λ (n : ℕ). unless n (handed (byCpu bus) (l .origin .«open_bus») (found e) (byteNoted c l e a)) 0) z ∙ noted c l (byCpu bus) a
+      ap (λ (n : ℕ). unless n (handed (byCpu bus) (l .origin .«open_bus») (found e) (byteNoted c l e a)) 0) z ∙ read-noted c l (byCpu bus) a
   byte-shown byPicture a q s z =
       ap (λ (n : ℕ). unless n (readNoted c l byPicture a) 0) z
 

@@ -44,7 +44,8 @@ pub record Timing : Type 0 where
   pub prescaler : ℕ
 
 -- the ledger: what the board was made with (of it the mirroring stands until mode or a CHR register has a byte, the revision decodes, and
--- the bus setting decides what a CPU read gives where nothing is there), registers, a copy of the changing buffer, interrupt values (01, Demand 3's lists and their ledger 2)
+-- the bus setting decides what a CPU read gives where nothing is there), registers, a copy of the changing buffer, interrupt values
+-- (01, Demand 3's lists and their ledger 2; 02, change 1)
 pub record Ledger : Type 0 where
   pub origin : Settings
   pub registers : Registers

@@ -31,7 +31,7 @@ use Rattle.vrc6_ledger.specs.Demand3.{start}
 use Rattle.vrc6_ledger.specs.Exhibited.{zeros, smallest}
 
 -- ---- with the setting and without it
--- a creation with the setting on or off, all else as it is
+-- a creation with the setting on or off, all else as it is (02, change 1)
 abbrev pub creationWith : (setting : Bool) → Creation → Creation
 creationWith setting c =
     record {
@@ -41,7 +41,7 @@ creationWith setting c =
       changing = c .changing;
     }
 
--- a board with the setting on or off, all else as it is
+-- a board with the setting on or off, all else as it is (02, change 1)
 abbrev pub boardWith : (setting : Bool) → Board → Board
 boardWith setting b =
     record {
@@ -54,36 +54,37 @@ boardWith setting b =
       «open_bus» = setting;
     }
 
--- the same of a board with its buffers
+-- the same of a board with its buffers (02, change 1)
 abbrev pub stateWith : (setting : Bool) → State → State
 stateWith setting x = heldBy (boardWith setting (x .board)) (x .fixed) (x .changing)
 
 -- ---- reads
--- a read as the Rust has it: the byte shown through the entry, 0 where that is unmapped (memory.rs, prg_peek; memory.rs, chr_peek; 01, Paging 1)
+-- a read as the Rust has it: the byte shown through the entry, of the unmapped one that of the fixed buffer's first page; refused, 0
+-- (memory.rs, prg_peek; memory.rs, chr_peek; 01, Paging 1; 01, The board's calls 3)
 abbrev pub rustRead : Side → State → (address : ℕ) → ByteRead
 rustRead s x address =
     let got = peeked (x .board .layout) (entryOf s (x .board) address) (x .fixed) (x .changing) address in
     record { board = x .board; byte = got .byte; refusal = got .refusal }
 
--- a CPU read is not refused, and finds nothing there: the entry of its address is the unmapped one
-abbrev pub nothingThere : State → (address : ℕ) → Bool
-nothingThere x address = unless (memoryRefusal cpu x address true) (isUnmapped (entryOf cpu (x .board) address)) false
+-- a CPU read is not refused, and finds nothing there: the entry of its address is the unmapped one (02, change 1)
+abbrev pub findsNothing : State → (address : ℕ) → Bool
+findsNothing x address = unless (memoryRefusal cpu x address true) (isUnmapped (entryOf cpu (x .board) address)) false
 
 -- ---- answers
--- what an answer says beside the board: its byte, tick, level or forecast with the number, and a view's bytes
+-- what an answer says beside the board: its byte, tick, level or forecast with the number, and a view's bytes (01, The board's calls 2)
 abbrev pub said : Given → Answer × List ℕ
 said g = (parts g .answer, parts g .view)
 
 -- what a call of each kind says with the setting, on board and buffers x, from what it says without: where nothing is there a CPU read
 -- gives the bus byte; every other answer is the same (02, change 1)
 abbrev pub saidBy : State → Shape → Answer × List ℕ
-saidBy x (reads (byCpu bus) a) = cond (nothingThere x a) (Byte bus 0, []) (said (givenBy x (reads (byCpu bus) a)))
+saidBy x (reads (byCpu bus) a) = cond (findsNothing x a) (Byte bus 0, []) (said (givenBy x (reads (byCpu bus) a)))
 saidBy x (reads byPicture a) = said (givenBy x (reads byPicture a))
 saidBy x (writes s a v) = said (givenBy x (writes s a v))
 saidBy x (views a) = said (givenBy x (views a))
 saidBy x (asks q) = said (givenBy x (asks q))
 
--- what the calls of a list say with the setting, from the board and buffers that they have without it
+-- what the calls of a list say with the setting, from the board and buffers that they have without it (02, change 1)
 abbrev pub allSaid : State → List Call → List (Answer × List ℕ)
 allSaid x [] = []
 allSaid x (k ∷ ks) = saidBy x (shape k) ∷ allSaid (next x k) ks
@@ -95,7 +96,7 @@ pub record Beside (off on : State) (ks : List Call) : Type 0 where
   pub kept : after off ks .board .«open_bus» ≡ false
   pub answers-are : map said (answers on ks) ≡ allSaid off ks
 
--- the setting, of every board and buffers that a host may lend and of every accepted creation
+-- only such CPU reads differ from the Rust: of every board and buffers that a host may lend, and of every accepted creation (02, change 1)
 pub record SettingLaw : Type 0 where
   -- without the setting both sides read as the Rust does, whatever the bus byte, and the picture side does with it too
   pub as-rust : (k : Caller) (x : State) (address : ℕ) → x .board .«open_bus» ≡ false → byteRead k x address ≡ rustRead (sideOf k) x address
@@ -119,7 +120,7 @@ readNoted c l (byCpu bus) address =
     cond (l .origin .«open_bus» && isUnmapped e) bus (byteNoted c l e address)
 readNoted c l byPicture address = byteNoted c l (entryFor (sideOf byPicture) (entries (sideOf byPicture) c l) address) address
 
--- the read of a caller as a call
+-- the read of a caller as a call (01, The board's calls 1)
 abbrev pub readOf : Caller → (address : ℕ) → Call
 readOf (byCpu bus) address = CpuRead address bus
 readOf byPicture address = PictureRead address

@@ -1,6 +1,6 @@
--- Where a read hands back the byte shown. Assumes nothing.
+-- What a read hands back of the byte shown. Assumes nothing.
 use mathlib.Core.Path.{_≡_, refl, sym, ap, _∙_}
-use mathlib.Core.Bool.{Bool, true, false, cond, false≢true}
+use mathlib.Core.Bool.{Bool, true, false, cond, _&&_, false≢true}
 use mathlib.Core.List.{List}
 use Prim.Native.Nat.{ℕ}
 use borrow.Author.Tests.{eqb-true}
@@ -15,17 +15,28 @@ use Rattle.memory_layout.specs.declared.regions.MemoryLayout.{MemoryLayout}
 use Rattle.memory_access.specs.Access.{byteAt, plainRefusal, peeked}
 use Rattle.vrc6_parts.specs.Reads.{Caller, byCpu, byPicture, handed, peekedBy}
 
--- without the setting a CPU read shows what is shown
+-- without the setting a CPU read hands back the byte shown
 pub off-shows : (bus : ℕ) (l : Lookup) (shown : ℕ) → handed (byCpu bus) false l shown ≡ shown
 off-shows bus Unmapped shown = refl
 off-shows bus (Mapped e) shown = refl
 
--- where something is there, every read does
+-- a lookup finds nothing
+abbrev pub isNothing : Lookup → Bool
+isNothing Unmapped = true
+isNothing (Mapped e) = false
+
+-- what a CPU read hands back, by whether nothing is there and the setting is on
+pub by-lookup : (bus shown : ℕ) (setting nothing : Bool) (l : Lookup) → nothing ≡ isNothing l
+    → cond (nothing && setting) bus shown ≡ handed (byCpu bus) setting l shown
+by-lookup bus shown setting nothing Unmapped e = ap (λ (n : Bool). cond (n && setting) bus shown) e
+by-lookup bus shown setting nothing (Mapped p) e = ap (λ (n : Bool). cond (n && setting) bus shown) e
+
+-- where a page is there, every read hands back the byte shown
 pub mapped-shows : (k : Caller) (setting : Bool) (e : Page) (shown : ℕ) → isUnmapped e ≡ false → handed k setting (found e) shown ≡ shown
 mapped-shows (byCpu bus) setting e shown h = ap (λ (b : Bool). handed (byCpu bus) setting (cond b Unmapped (Mapped e)) shown) h
 mapped-shows byPicture setting e shown h = refl
 
--- as it is where a page takes writes
+-- an entry that takes writes is not the unmapped one
 pub writable-mapped : (e : Page) → writable e ≡ true → isUnmapped e ≡ false
 writable-mapped e w =
     tested (isUnmapped e) (λ u. absurd (false≢true (sym (ap (bit 31) (eqb-true (e .0) 0 u)) ∙ w))) (λ m. m)

@@ -7,29 +7,12 @@ use memory_layout::MemoryLayout;
 use memory_pages::Lookup;
 use memory_pages::Page;
 ghost use mathlib.Core.Path.{_≡_};
-ghost use Prim.Native.Nat.{_+_, _%_, _/_, _≤_};
-ghost use lib.ListN.{length};
-ghost use Rattle.memory_pages.specs.Pages.{found, offset};
-ghost use Rattle.memory_access.specs.Access.{byteAt, peeked};
-ghost use Rattle.vrc6_parts.specs.Reads.{byCpu, handed, peekedBy};
-
-// The byte that a CPU read hands back through an entry that is checked already: with the setting on, where nothing is there,
-// the bus byte.
-fn hand_back(entry: Page, open_bus: bool, fixed: &[u8], changing: &[u8], addr: u16, bus: u8) -> u8
-    requires { ⌜ offset entry + 1024 ≤ length (now fixed) + length (now changing) ⌝ }
-    ensures { λ r. ⌜ r ≡ handed (byCpu bus) «open_bus» (found entry) (byteAt entry (now (fixed .entry)) (now (changing .entry)) addr) ⌝ }
-{
-    if open_bus {
-        return match entry.lookup() {
-            Lookup::Unmapped => bus,
-            Lookup::Mapped(page) => byte_shown(page, fixed, changing, addr),
-        };
-    }
-    byte_shown(entry, fixed, changing, addr)
-}
+ghost use Prim.Native.Nat.{_%_, _/_};
+ghost use Rattle.memory_access.specs.Access.{peeked};
+ghost use Rattle.vrc6_parts.specs.Reads.{byCpu, peekedBy};
 
 // What a CPU read gives, in one number: its byte, and 256 times the number of its refusal. So its ways meet in one word, and
-// not in a struct that each of them fills.
+// not in a struct that each of them fills. With the setting on, where nothing is there, it hands back the bus byte.
 fn cpu_number(
     layout: MemoryLayout,
     entry: Page,
@@ -46,7 +29,14 @@ fn cpu_number(
     if refusal != 0 {
         return refusal as u16 * 256;
     }
-    hand_back(entry, open_bus, fixed, changing, addr, bus) as u16
+    let nothing = match entry.lookup() {
+        Lookup::Unmapped => true,
+        Lookup::Mapped(page) => false,
+    };
+    if nothing & open_bus {
+        return bus as u16;
+    }
+    byte_shown(entry, fixed, changing, addr) as u16
 }
 
 // What a CPU read gives through an entry, by the parts of a board that it needs. Without the setting an unmapped entry shows

@@ -94,11 +94,11 @@ module _ (q r : Bool) (address : ℕ) (low : address < 2 ^ 16) where
   abbrev up : List Bool
   up = replicate 8 q ++ replicate 32 r
 
-  found : (x y : Bool) → ltb address 0x6000 ≡ x → ltb address 0x8000 ≡ y → getD (replicate 24 true ++ up) n true ≡ cond x true (cond y q r)
-  found true y e f = inside 24 true up n (omega (arith, ltb-true))
-  found false true e f =
+  looked-up : (x y : Bool) → ltb address 0x6000 ≡ x → ltb address 0x8000 ≡ y → getD (replicate 24 true ++ up) n true ≡ cond x true (cond y q r)
+  looked-up true y e f = inside 24 true up n (omega (arith, ltb-true))
+  looked-up false true e f =
       behind 24 true up n (omega (arith, ltb-false)) ∙ inside 8 q (replicate 32 r) (n - 24) (omega (arith, ltb-true, ltb-false))
-  found false false e f =
+  looked-up false false e f =
       behind 24 true up n (omega (arith, ltb-false)) ∙ behind 8 q (replicate 32 r) (n - 24) (omega (arith, ltb-false))
       ∙ getD-replicate 32 (n - 24 - 8) r true (omega arith)
 
@@ -109,4 +109,4 @@ nothing-at-law l b h address low =
     let k = address / 1024 % 64 in
     sym (List·getD-map isUnmapped (cpuEntries l b) k unmapped)
     ∙ ap (λ (t : List Bool). getD t k true) (runs l (limits l h) on (pos (getD (b .«prg_banks») 0 0)) (pos (getD (b .«prg_banks») 1 0)))
-    ∙ found (not on || eqb (l .«prg_ram») 0) (eqb (l .«prg_rom») 0) address low (ltb address 0x6000) (ltb address 0x8000) refl refl
+    ∙ looked-up (not on || eqb (l .«prg_ram») 0) (eqb (l .«prg_rom») 0) address low (ltb address 0x6000) (ltb address 0x8000) refl refl

@@ -63,17 +63,21 @@ fn level<F: Form>(f: &mut [F; 2], n: u32) {
         black_box(&mut f[0]).call_level();
     }
 }
+/// The k-th address from one on, up to the end of its window.
+fn address(from: u16, k: u32) -> u16 {
+    from | k as u16 & ((from & from.wrapping_neg()) - 1)
+}
 #[inline(never)]
-fn cpu_read<F: Form>(f: &mut [F; 2], n: u32) {
+fn cpu_read<const FROM: u16, F: Form>(f: &mut [F; 2], n: u32) {
     for k in 0..n {
-        let (form, a) = (black_box(&mut f[0]), black_box(0x8000 | k as u16));
+        let (form, a) = (black_box(&mut f[0]), black_box(address(FROM, k)));
         form.call_cpu_read(a, a as u8);
     }
 }
 #[inline(never)]
-fn bus_read<F: Form>(f: &mut [F; 2], n: u32) {
+fn bus_read<const FROM: u16, F: Form>(f: &mut [F; 2], n: u32) {
     for k in 0..n {
-        let (form, a) = (black_box(&mut f[0]), black_box(0x6000 | k as u16 & 0x1FFF));
+        let (form, a) = (black_box(&mut f[0]), black_box(address(FROM, k)));
         form.call_bus_read(a, a as u8);
     }
 }
@@ -152,8 +156,10 @@ pub const ROWS: &[Row] = &[
     row!("clock, line mode, silent", "clock", silent, 0, clock),
     row!("clock, cycle mode, three channels", "clock", cycle, 0, clock),
     row!("clock, worst case: all periods 1", "clock", short, 0, clock),
-    row!("CPU read", "CPU read", ram, 0, cpu_read),
-    Row { open_bus: true, ..row!("CPU read, RAM off, open bus", "CPU read, open bus", nothing, 0, bus_read) },
+    row!("CPU read", "CPU read", ram, 0, cpu_read::<0x8000, _>),
+    row!("CPU read, RAM off", "CPU read of $6000", nothing, 0, cpu_read::<0x6000, _>),
+    Row { open_bus: true, ..row!("CPU read, open bus", "CPU read, open bus", ram, 0, bus_read::<0x8000, _>) },
+    Row { open_bus: true, ..row!("CPU read, RAM off, open bus", "CPU read of $6000, open bus", nothing, 0, bus_read::<0x6000, _>) },
     row!("picture read", "picture read", nothing, 0, picture_read),
     row!("CPU write to RAM", "CPU write to RAM", ram, 0, ram_write),
     row!("CPU write to $F000", "CPU write to a register", ram, 0, register_write::<0xF000, _>),
