@@ -14,7 +14,8 @@ ghost use Rattle.vrc6.specs.Boards.{heldBy};
 ghost use Rattle.vrc6_calls.specs.Lists.{changingAfter, step};
 ghost use Rattle.vrc6_calls.specs.Stepping.{ofByteRead, ofClocked, ofForecasted, ofLeveled, ofWritten};
 
-// A call with its arguments; a CPU read has the bus byte behind its address. Clock and CPU write stand twice, by value and for their lent forms, which promise the same.
+// A call with its arguments; a CPU read has the bus byte behind its address. Clock and CPU write stand twice, by value and for
+// their lent forms, which promise the same.
 pub enum Call {
     CpuRead(u16, u8),
     CpuWrite(u16, u8),

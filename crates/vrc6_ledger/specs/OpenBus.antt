@@ -10,7 +10,7 @@ use Rattle.memory_pages.specs.declared.page.Page.{Page}
 use Rattle.memory_pages.specs.Pages.{offset, isUnmapped}
 use Rattle.memory_layout.specs.declared.regions.MemoryLayout.{MemoryLayout}
 use Rattle.memory_layout.specs.Layout.{withinLimits}
-use Rattle.memory_tables.specs.Paging.{Side, cpu, entryFor}
+use Rattle.memory_tables.specs.Paging.{Side, cpu, picture, entryFor}
 use Rattle.memory_access.specs.Access.{peeked}
 use Rattle.vrc6_slots.specs.declared.Mirroring.{Mirroring}
 use Rattle.vrc6_banking.specs.declared.banking.Revision.{Revision}
@@ -100,7 +100,7 @@ pub record Beside (off on : State) (ks : List Call) : Type 0 where
 pub record SettingLaw : Type 0 where
   -- without the setting both sides read as the Rust does, whatever the bus byte, and the picture side does with it too
   pub as-rust : (k : Caller) (x : State) (address : ℕ) → x .board .«open_bus» ≡ false → byteRead k x address ≡ rustRead (sideOf k) x address
-  pub picture-as-rust : (x : State) (address : ℕ) → byteRead byPicture x address ≡ rustRead (sideOf byPicture) x address
+  pub picture-as-rust : (x : State) (address : ℕ) → byteRead byPicture x address ≡ rustRead picture x address
   -- on any board with any buffers, refused or not
   pub lent : (x : State) (ks : List Call) → Beside (stateWith false x) (stateWith true x) ks
   -- from two accepted creations that differ in the setting alone
@@ -118,7 +118,7 @@ abbrev pub readNoted : Creation → Ledger → Caller → (address : ℕ) → �
 readNoted c l (byCpu bus) address =
     let e = entryFor cpu (entries cpu c l) address in
     cond (l .origin .«open_bus» && isUnmapped e) bus (byteNoted c l e address)
-readNoted c l byPicture address = byteNoted c l (entryFor (sideOf byPicture) (entries (sideOf byPicture) c l) address) address
+readNoted c l byPicture address = byteNoted c l (entryFor picture (entries picture c l) address) address
 
 -- the read of a caller as a call (01, The board's calls 1)
 abbrev pub readOf : Caller → (address : ℕ) → Call
