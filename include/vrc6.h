@@ -1,14 +1,14 @@
 /* The proved VRC6 board for C11 and C++ hosts: System V x86-64, linked with target/staticlib/libvrc6.a, which
  * host/archive makes.
  *
- * The host keeps one board and two buffers, and lends them to each call. The archive allocates nothing, keeps no
- * pointer and has no state of its own. A board and its buffers must not be used by two threads at once; two boards
- * may be.
+ * The host keeps one board and two buffers, and lends them to each call. vrc6_read_header and vrc6_fill take no board:
+ * they say what a cartridge file needs, and fill the buffers from it. The archive allocates nothing, keeps no pointer
+ * and has no state of its own. A board and its buffers must not be used by two threads at once; two boards may be.
  *
  * Every call is proved to end in its answer or in a numbered refusal, for any lengths, addresses, bytes and board
  * values. What no call can check is left to the host:
  *   - a pointer is not null, and what it points at is live and as long as the length beside it says;
- *   - board, fixed and changing do not overlap;
+ *   - board, fixed, changing and file do not overlap;
  *   - a bool of a board, and chr_writable of the layout that vrc6_create is given, holds 0 or 1.
  */
 #ifndef VRC6_H
@@ -27,14 +27,17 @@
 extern "C" {
 #endif
 
-/* The number of a refusal: the first condition that fails, in this order. A refused call leaves board and buffers as
- * they were; vrc6_create leaves the zero board. */
+/* The number of a refusal: the first condition that fails, in this order, but that a file is checked by 5, 6 and 7
+ * before the buffers by 2. A refused call leaves board and buffers as they were; vrc6_create leaves the zero board. */
 enum {
     VRC6_OK = 0,
     VRC6_LIMITS = 1,  /* a length of the layout is above its limit */
     VRC6_LENGTHS = 2, /* a buffer's length is not the layout's */
     VRC6_VALUES = 3,  /* a value that the call checks is out of range */
-    VRC6_ZEROS = 4    /* vrc6_create only: the first 1,024 bytes of the fixed buffer are not all zero */
+    VRC6_ZEROS = 4,   /* vrc6_create only: the first 1,024 bytes of the fixed buffer are not all zero */
+    VRC6_HEADER = 5,  /* a file has fewer than 16 bytes, or its first four are not 4E 45 53 1A */
+    VRC6_MAPPER = 6,  /* a file's mapper is not 24 or 26, or its header is of the newer edition (NES 2.0) */
+    VRC6_FILE = 7     /* a file states a length above its limit, or ends early */
 };
 
 /* A mirroring, as settings and a board hold it. */
@@ -165,6 +168,16 @@ typedef struct {
     uint8_t refusal;
 } Vrc6PageAt;
 
+/* What the header of a cartridge file states. Refused: all 0 but the number. */
+typedef struct {
+    Vrc6MemoryLayout layout;
+    uint8_t mirroring;  /* VRC6_VERTICAL, VRC6_HORIZONTAL or VRC6_FOUR_SCREEN */
+    uint8_t revision;   /* VRC6_REVISION_A or VRC6_REVISION_B */
+    uint32_t prg_start; /* where PRG begins in the file */
+    uint32_t chr_start; /* where PRG ends and CHR begins, also where CHR is writable and takes no bytes of the file */
+    uint8_t refusal;
+} Vrc6Cartridge;
+
 /* The lengths that the two buffers of a layout must have. A region is rounded up to whole pages of 1,024.
  * Fixed: a page of zeros, PRG ROM, CHR if it is not writable.
  * Changing: PRG RAM, CHR if it is writable, CIRAM. */
@@ -180,6 +193,23 @@ static inline size_t vrc6_changing_length(Vrc6MemoryLayout layout) {
     return vrc6_whole_pages(layout.prg_ram) + (layout.chr_writable ? vrc6_whole_pages(layout.chr) : 0) +
            vrc6_whole_pages(layout.ciram == 0 ? 2048 : layout.ciram);
 }
+
+/* The settings that a cartridge states. They are without open_bus: a host that wants it sets it in them. */
+static inline Vrc6Settings vrc6_settings_of(Vrc6Cartridge cartridge) {
+    Vrc6Settings settings = {cartridge.mirroring, cartridge.revision, 0};
+    return settings;
+}
+
+/* What the header of a cartridge file (iNES) states; file is the whole file. Of the bytes behind byte 7 it only matters
+ * how many there are; more than the header states are allowed. The call changes nothing.
+ * Refused by VRC6_HEADER, VRC6_MAPPER or VRC6_FILE. */
+Vrc6Cartridge vrc6_read_header(const uint8_t *file, size_t file_len);
+
+/* Fills both buffers for vrc6_create from a cartridge file: fixed by 1,024 zeros, the file's PRG, and its CHR if it is
+ * not writable; changing by zeros. Their lengths are those of the layout that vrc6_read_header gives, of any file at most
+ * 525,312 and 20,480 bytes. Refused as vrc6_read_header is, then by VRC6_LENGTHS: both buffers stay as they were. */
+uint8_t vrc6_fill(const uint8_t *file, size_t file_len, uint8_t *fixed, size_t fixed_len, uint8_t *changing,
+                  size_t changing_len);
 
 /* Makes a new board in *board, whatever bytes were there, and changes neither buffer.
  * Refused by VRC6_LIMITS, VRC6_LENGTHS, VRC6_VALUES (a mirroring above 4, a revision or open_bus above 1) or VRC6_ZEROS.
@@ -320,6 +350,14 @@ VRC6_AT(Vrc6Forecast, refusal, 5);
 VRC6_SIZE(Vrc6PageAt, 8);
 VRC6_AT(Vrc6PageAt, changing, 4);
 VRC6_AT(Vrc6PageAt, refusal, 5);
+
+VRC6_SIZE(Vrc6Cartridge, 36);
+VRC6_AT(Vrc6Cartridge, layout, 0);
+VRC6_AT(Vrc6Cartridge, mirroring, 20);
+VRC6_AT(Vrc6Cartridge, revision, 21);
+VRC6_AT(Vrc6Cartridge, prg_start, 24);
+VRC6_AT(Vrc6Cartridge, chr_start, 28);
+VRC6_AT(Vrc6Cartridge, refusal, 32);
 
 #undef VRC6_AT
 #undef VRC6_SIZE

@@ -1,4 +1,5 @@
-/* Every field of a board, by name and place. Nothing is said of a byte that is in none of them: it only aligns. */
+/* Every field of a board and of a cartridge, by name and place. Nothing is said of a byte that is in none of them: it
+ * only aligns. */
 #ifndef FIELDS_H
 #define FIELDS_H
 
@@ -9,7 +10,9 @@ typedef struct {
     size_t at, size;
 } Field;
 
-#define FIELD(path) {#path, offsetof(Vrc6Board, path), sizeof((Vrc6Board *)0)->path}
+#define FIELD_OF(type, path) {#path, offsetof(type, path), sizeof((type *)0)->path}
+#define FIELD(path) FIELD_OF(Vrc6Board, path)
+#define CARTRIDGE_FIELD(path) FIELD_OF(Vrc6Cartridge, path)
 #define PULSE(p)                                                                                                       \
     FIELD(p.enabled), FIELD(p.volume), FIELD(p.duty_cycle), FIELD(p.ignore_duty), FIELD(p.frequency), FIELD(p.timer),  \
         FIELD(p.step), FIELD(p.freq_shift)
@@ -49,6 +52,22 @@ static const Field fields[] = {
     FIELD(open_bus),
 };
 
-enum { FIELDS = sizeof fields / sizeof fields[0] };
+static const Field cartridge_fields[] = {
+    CARTRIDGE_FIELD(layout.prg_rom),
+    CARTRIDGE_FIELD(layout.chr),
+    CARTRIDGE_FIELD(layout.chr_writable),
+    CARTRIDGE_FIELD(layout.prg_ram),
+    CARTRIDGE_FIELD(layout.ciram),
+    CARTRIDGE_FIELD(mirroring),
+    CARTRIDGE_FIELD(revision),
+    CARTRIDGE_FIELD(prg_start),
+    CARTRIDGE_FIELD(chr_start),
+    CARTRIDGE_FIELD(refusal),
+};
+
+enum {
+    FIELDS = sizeof fields / sizeof fields[0],
+    CARTRIDGE_FIELDS = sizeof cartridge_fields / sizeof cartridge_fields[0]
+};
 
 #endif

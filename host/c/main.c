@@ -1,5 +1,6 @@
-/* A player's loop in small: a board on a made-up cartridge, registers written, clocked until the interrupt. */
+/* A player's loop in small: a board from a made-up cartridge file, registers written, clocked until the interrupt. */
 #include "cart.h"
+#include "file.h"
 #include <stdlib.h>
 
 static Vrc6Board board;
@@ -80,11 +81,28 @@ static void pages(void) {
     printf("33 written to nametable $2400: its page begins with %u\n", page_begins(0x2400));
 }
 
+/* The file that a host would read from disk: each page of PRG and of CHR holds its number. */
+static size_t load_file(void) {
+    size_t length = make_file(PRG_ROM / PRG_UNIT, CHR / CHR_UNIT, 24, VERTICAL_BIT);
+    for (size_t i = 0; i < (PRG_ROM + CHR) / 1024; i++) memset(file + HEADER + 1024 * i, (int)(i % 128), 1024);
+    return length;
+}
+
+static void start(size_t length) {
+    Vrc6Cartridge read = vrc6_read_header(file, length);
+    accepted("read_header", read.refusal);
+    printf("file %zu bytes: PRG at %u, CHR at %u, mirroring %u, revision %u\n", length, read.prg_start, read.chr_start,
+           read.mirroring, read.revision);
+    size_t fixed_len = vrc6_fixed_length(read.layout), changing_len = vrc6_changing_length(read.layout);
+    printf("fixed %zu bytes, changing %zu bytes\n", fixed_len, changing_len);
+    accepted("fill", vrc6_fill(file, length, fixed, fixed_len, changing, changing_len));
+    Vrc6Settings settings = vrc6_settings_of(read);
+    settings.open_bus = 1;
+    accepted("create", vrc6_create(&board, read.layout, settings, fixed, fixed_len, changing, changing_len));
+}
+
 int main(void) {
-    insert_cart();
-    printf("fixed %zu bytes, changing %zu bytes\n", vrc6_fixed_length(cart), vrc6_changing_length(cart));
-    Vrc6Settings settings = {.mirroring = VRC6_VERTICAL, .revision = VRC6_REVISION_A, .open_bus = 1};
-    accepted("create", make_with(&board, settings));
+    start(load_file());
     banks();
     interrupt();
     sound();

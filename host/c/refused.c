@@ -2,6 +2,7 @@
  * were; a refused creation leaves the zero board. */
 #include "cart.h"
 #include "fields.h"
+#include "file.h"
 
 static Vrc6Board board;
 
@@ -180,6 +181,95 @@ static void refused_creations(void) {
     expect("create", make_with(&board, open), VRC6_OK);
 }
 
+/* A file that is refused: the header's answer is all 0 but the number, and fill leaves buffers of whatever lengths. */
+static void not_read(size_t length, int wanted) {
+    static const size_t lengths[][2] = {{FIXED, CHANGING}, {FIXED + 1, CHANGING}, {FIXED, 0}, {0, 0}};
+    static const Vrc6Cartridge zeros;
+    Vrc6Cartridge read = vrc6_read_header(file, length);
+    expect("read_header", read.refusal, wanted);
+    read.refusal = 0;
+    for (int i = 0; i < CARTRIDGE_FIELDS; i++) {
+        Field f = cartridge_fields[i];
+        expect(f.name, memcmp((uint8_t *)&read + f.at, (const uint8_t *)&zeros + f.at, f.size), 0);
+    }
+    for (int i = 0; i < 4; i++)
+        refused("fill", vrc6_fill(file, length, fixed, lengths[i][0], changing, lengths[i][1]), wanted);
+}
+
+/* One byte of the header takes another value, and then its first one again. */
+static void not_read_with(size_t at, int val, size_t length, int wanted) {
+    uint8_t first = file[at];
+    file[at] = (uint8_t)val;
+    not_read(length, wanted);
+    file[at] = first;
+}
+
+/* The file of a board with the buffers of cart.h. */
+static size_t cart_file(void) {
+    return make_file(PRG_ROM / PRG_UNIT, CHR / CHR_UNIT, 24, VERTICAL_BIT);
+}
+
+/* 5, also where the mapper is another one and the file ends early. */
+static void refused_headers(void) {
+    size_t length = cart_file();
+    for (size_t n = 0; n < HEADER; n++) not_read(n, VRC6_HEADER);
+    for (size_t at = 0; at < 4; at++)
+        for (int n = 1; n < 256; n += 2) not_read_with(at, file[at] ^ n, length, VRC6_HEADER);
+    write_mapper(25, 0);
+    not_read_with(0, 0x4F, HEADER, VRC6_HEADER);
+    not_read(HEADER - 1, VRC6_HEADER);
+}
+
+/* 6, also where the file ends early or a length is above its limit. */
+static void refused_mappers(void) {
+    size_t length = cart_file();
+    for (int n = 0; n < 256; n++) {
+        if (n == 24 || n == 26) continue;
+        write_mapper(n, VERTICAL_BIT);
+        not_read(length, VRC6_MAPPER);
+        not_read_with(4, 17, HEADER, VRC6_MAPPER);
+    }
+    /* The newer edition, by bits 3 and 2 of byte 7. */
+    cart_file();
+    for (int n = 0x18; n < 0x1C; n++) not_read_with(7, n, length, VRC6_MAPPER);
+    not_read_with(7, 0x18, HEADER, VRC6_MAPPER);
+}
+
+/* 7: a file that is too short by its header, or has all that it states and states too much. */
+static void refused_files(void) {
+    size_t length = cart_file();
+    for (size_t n = HEADER; n < length; n += 4093) not_read(n, VRC6_FILE);
+    not_read(length - 1, VRC6_FILE);
+    not_read_with(6, 0x80 | TRAINER_BIT, length + TRAINER - 1, VRC6_FILE);
+    not_read(make_file(17, 0, 24, 0), VRC6_FILE);
+    not_read(make_file(0, 33, 26, TRAINER_BIT), VRC6_FILE);
+    cart_file();
+    for (int n = 17; n < 256; n += 17) not_read_with(4, n, sizeof file, VRC6_FILE);
+    for (int n = 33; n < 256; n += 37) not_read_with(5, n, sizeof file, VRC6_FILE);
+}
+
+/* 2: the file is accepted, and a buffer is not of its layout's length. */
+static void refused_fills(void) {
+    static const size_t off[][2] = {{FIXED - 1, CHANGING}, {FIXED + 1, CHANGING}, {0, CHANGING}, {FIXED, CHANGING - 1},
+                                    {FIXED, CHANGING + 1}, {FIXED - 1, CHANGING + 1}, {FIXED, 0}, {0, 0}};
+    size_t length = cart_file();
+    for (size_t i = 0; i < sizeof off / sizeof off[0]; i++)
+        refused("fill", vrc6_fill(file, length, fixed, off[i][0], changing, off[i][1]), VRC6_LENGTHS);
+    expect("fill", vrc6_fill(file, length, fixed, FIXED, changing, CHANGING), VRC6_OK);
+    expect("fixed buffer after fill", memcmp(fixed + 1024, file + HEADER, PRG_ROM + CHR), 0);
+}
+
+/* Before it no byte of the buffers is 0, so that a zero filled in would show. */
+static void files(void) {
+    memset(fixed, 0xEE, sizeof fixed);
+    memset(changing, 0xEE, sizeof changing);
+    remember();
+    refused_headers();
+    refused_mappers();
+    refused_files();
+    refused_fills();
+}
+
 int main(void) {
     insert_cart();
     wrong_lengths();
@@ -187,5 +277,6 @@ int main(void) {
     garbage_boards();
     refused_creations();
     zero_board();
+    files();
     return verdict("refused");
 }

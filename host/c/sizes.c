@@ -1,7 +1,8 @@
-/* Whether the archive has every field of a board where vrc6.h declares it. This half: what the archive writes, C finds
- * in the field and nowhere else. The other half is fields.c. */
+/* Whether the archive has every field of a board where vrc6.h declares it, and of a cartridge. This half: what the
+ * archive writes, C finds in the field and nowhere else. The other half is fields.c. */
 #include "cart.h"
 #include "fields.h"
+#include "file.h"
 
 /* A board with memory behind it that no call may touch. */
 typedef union {
@@ -143,18 +144,23 @@ static void play(Vrc6Board *board, Step s) {
     }
 }
 
-/* Each change that the step names has happened. What is named is then put back, so that nothing else may differ. */
-static void compare(Step s, const Room *before, Room *after) {
-    for (int i = 0; i < 6 && s.changes[i].field.name; i++) {
-        Field f = s.changes[i].field;
+/* Each of at most n changes that are named has happened. What is named is then put back. */
+static void changed(const Change *changes, int n, const uint8_t *before, uint8_t *after) {
+    for (int i = 0; i < n && changes[i].field.name; i++) {
+        Field f = changes[i].field;
         uint32_t value = 0;
         if (f.size <= 4) {
-            memcpy(&value, after->bytes + f.at, f.size);
-            expect(f.name, value, s.changes[i].value);
+            memcpy(&value, after + f.at, f.size);
+            expect(f.name, value, changes[i].value);
         }
-        expect(f.name, memcmp(before->bytes + f.at, after->bytes + f.at, f.size) != 0, 1);
-        memcpy(after->bytes + f.at, before->bytes + f.at, f.size);
+        expect(f.name, memcmp(before + f.at, after + f.at, f.size) != 0, 1);
+        memcpy(after + f.at, before + f.at, f.size);
     }
+}
+
+/* Nothing but what the step names has changed. */
+static void compare(Step s, const Room *before, Room *after) {
+    changed(s.changes, 6, before->bytes, after->bytes);
     for (int i = 0; i < FIELDS; i++)
         expect(fields[i].name, memcmp(before->bytes + fields[i].at, after->bytes + fields[i].at, fields[i].size), 0);
     for (size_t i = sizeof(Vrc6Board); i < sizeof(Room); i++) expect("behind a board", after->bytes[i], 0xC3);
@@ -176,6 +182,55 @@ static void walk(const Step *steps, size_t n) {
 
 #define WALK(steps) walk(steps, sizeof steps / sizeof steps[0])
 
+/* A byte of a file's header with another value, and what the answer has then. */
+typedef struct {
+    uint8_t at, val;
+    Change changes[3];
+} Stated;
+
+#define STATES(path, value) {CARTRIDGE_FIELD(path), value}
+
+/* From a file of 2 units of PRG and 3 of CHR, horizontal, of revision A. */
+static const Stated stated[] = {
+    {4, 5, {STATES(layout.prg_rom, 5 * PRG_UNIT), STATES(chr_start, HEADER + 5 * PRG_UNIT)}},
+    {5, 7, {STATES(layout.chr, 7 * CHR_UNIT)}},
+    {5, 0, {STATES(layout.chr, CHR_UNIT), STATES(layout.chr_writable, 1)}},
+    {6, 0x81, {STATES(mirroring, VRC6_VERTICAL)}},
+    {6, 0x82, {{{0}, 0}}},
+    {6, 0x84, {STATES(prg_start, HEADER + TRAINER), STATES(chr_start, HEADER + TRAINER + 2 * PRG_UNIT)}},
+    {6, 0x88, {STATES(mirroring, VRC6_FOUR_SCREEN), STATES(layout.ciram, 4096)}},
+    {6, 0xA0, {STATES(revision, VRC6_REVISION_B)}},
+    {7, 0x1F, {{{0}, 0}}},
+};
+
+static void read_header_of(Stated s, const Vrc6Cartridge *before) {
+    uint8_t first = file[s.at];
+    file[s.at] = s.val;
+    Vrc6Cartridge after = vrc6_read_header(file, sizeof file);
+    file[s.at] = first;
+    changed(s.changes, 3, (const uint8_t *)before, (uint8_t *)&after);
+    for (int i = 0; i < CARTRIDGE_FIELDS; i++) {
+        Field f = cartridge_fields[i];
+        expect(f.name, memcmp((const uint8_t *)before + f.at, (uint8_t *)&after + f.at, f.size), 0);
+    }
+}
+
+static void headers(void) {
+    make_file(2, 3, 24, 0);
+    Vrc6Cartridge read = vrc6_read_header(file, sizeof file);
+    expect("layout.prg_rom", read.layout.prg_rom, 2 * PRG_UNIT);
+    expect("layout.chr", read.layout.chr, 3 * CHR_UNIT);
+    expect("layout.chr_writable", read.layout.chr_writable, 0);
+    expect("layout.prg_ram", read.layout.prg_ram, 8192);
+    expect("layout.ciram", read.layout.ciram, 2048);
+    expect("mirroring", read.mirroring, VRC6_HORIZONTAL);
+    expect("revision", read.revision, VRC6_REVISION_A);
+    expect("prg_start", read.prg_start, HEADER);
+    expect("chr_start", read.chr_start, HEADER + 2 * PRG_UNIT);
+    expect("refusal", read.refusal, VRC6_OK);
+    for (size_t i = 0; i < sizeof stated / sizeof stated[0]; i++) read_header_of(stated[i], &read);
+}
+
 int main(void) {
     insert_cart();
     created_whole();
@@ -184,5 +239,6 @@ int main(void) {
     WALK(bank_steps);
     WALK(irq_steps);
     WALK(sound_steps);
+    headers();
     return verdict("sizes");
 }

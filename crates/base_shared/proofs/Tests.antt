@@ -3,7 +3,9 @@ use mathlib.Core.Path.{_≡_, refl, sym, ap, _∙_}
 use mathlib.Core.Bool.{Bool, true, false, cond, _&&_, _||_, false≢true}
 use mathlib.Core.List.{List, [], _∷_, _++_}
 use Prim.Native.Nat.{ℕ, zero, suc}
+use mir.Val.{boolByte}
 use Rattle.base_shared.specs.Refusals.{firstFailing, unless}
+use Rattle.base_shared.specs.Rows.{flag}
 
 pub and-left : (a b : Bool) → (a && b) ≡ true → a ≡ true
 and-left true b h = refl
@@ -25,6 +27,11 @@ either P false h k = k
 pub tested : {A : Type 0} (b : Bool) → (b ≡ true → A) → (b ≡ false → A) → A
 tested true f g = f refl
 tested false f g = g refl
+
+-- a bool that is cast to a number
+pub byte-flag : (b : Bool) → boolByte b ≡ flag b
+byte-flag true = refl
+byte-flag false = refl
 
 -- what a call leaves, from a number that equals its refusal number
 module _ {A : Type 0} (done given : A) (m n : ℕ) (e : n ≡ m) where

@@ -2,6 +2,8 @@
 //
 // Every call is total and refuses by number. Refused, it leaves board and buffers as they were; only create leaves the
 // zero board. Board and buffers cross as references, an answer as a number or a small struct.
+pub mod files;
+
 use host_answers::EncodedForecast;
 use host_answers::EncodedLevel;
 use host_answers::PageAt;

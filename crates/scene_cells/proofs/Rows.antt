@@ -13,6 +13,7 @@ examples =
       unclosed = refl;
       behind-quote = refl;
       column = refl;
+      last-column = refl;
       no-column = refl;
       revision = refl;
       no-revision = refl;

@@ -5,8 +5,8 @@ use Rattle.text_words.specs.Names.{codes, placeIn}
 
 -- the names of the columns
 abbrev pub columns : List ℕ
-columns = codes "scene prg chr revision mirroring writes window letters menu"
+columns = codes "scene prg chr revision mirroring writes window letters menu file"
 
--- the column of a name: its place, 9 for another name
+-- the column of a name: its place, 10 for another name
 abbrev pub columnOf : List ℕ → ℕ
 columnOf name = placeIn columns name

@@ -35,9 +35,10 @@ pub record CellExamples : Type 0 where
   pub unclosed : cellOf (34 ∷ 97 ∷ 44 ∷ 34 ∷ 34 ∷ 98 ∷ []) ≡ record { bytes = 97 ∷ 44 ∷ 34 ∷ 34 ∷ 98 ∷ []; rest = []; quoted = true; last = true; wrong = 1 }
   -- `"a"b,`
   pub behind-quote : cellOf (34 ∷ 97 ∷ 34 ∷ 98 ∷ 44 ∷ []) ≡ record { bytes = 97 ∷ []; rest = []; quoted = true; last = false; wrong = 2 }
-  -- `Menu` and `menus`
+  -- `Menu`, `file` and `menus`
   pub column : columnOf (77 ∷ 101 ∷ 110 ∷ 117 ∷ []) ≡ 8
-  pub no-column : columnOf (109 ∷ 101 ∷ 110 ∷ 117 ∷ 115 ∷ []) ≡ 9
+  pub last-column : columnOf (102 ∷ 105 ∷ 108 ∷ 101 ∷ []) ≡ 9
+  pub no-column : columnOf (109 ∷ 101 ∷ 110 ∷ 117 ∷ 115 ∷ []) ≡ 10
   -- `B`, of the revisions and of the mirrorings, and `C`
   pub revision : revisionOf (66 ∷ []) ≡ 1
   pub no-revision : revisionOf (67 ∷ []) ≡ 2

@@ -21,14 +21,16 @@ pub const LETTERS: u8 = 7;
 
 pub const MENU: u8 = 8;
 
-pub const NO_COLUMN: u8 = 9;
+pub const FILE: u8 = 9;
+
+pub const NO_COLUMN: u8 = 10;
 
 // The column that a cell of the first row names.
 pub fn column_of(name: &[u8]) -> u8
     ensures { λ r. ⌜ r ≡ columnOf (now (name .entry)) ⌝ }
 {
     place_in(
-        b"scene prg chr revision mirroring writes window letters menu",
+        b"scene prg chr revision mirroring writes window letters menu file",
         name,
     ) as u8
 }

@@ -23,8 +23,10 @@ pub const LETTERS: usize = 7;
 
 pub const MENU: usize = 8;
 
+pub const FILE: usize = 9;
+
 // A fault of no column is one of the whole row.
-pub const NO_COLUMN: usize = 9;
+pub const NO_COLUMN: usize = 10;
 
 // What is wrong with a row or a cell, by its place in the texts of `put_fault`. Scene_cells' numbers are the first; 0 is nothing.
 pub const BEHIND_A_QUOTE: usize = 3;
@@ -53,6 +55,13 @@ pub const NO_MIRRORING: usize = 15;
 
 pub const MANY_WORDS: usize = 16;
 
+// More stands behind the text of this one and of FILE_REFUSED.
+pub const NOT_THE_FILE: usize = 17;
+
+pub const FILE_UNREAD: usize = 18;
+
+pub const FILE_REFUSED: usize = 19;
+
 // Where a fault is: the row, the column, and whether the cell is in quotes.
 pub struct Place {
     pub row: u32,
@@ -67,7 +76,7 @@ fn put_place(out: &mut [u8; ROOM], len: usize, row: u32, column: usize) -> usize
     put_nth(
         out,
         a,
-        b", scene: |, prg: |, chr: |, revision: |, mirroring: |, writes: |, window: |, letters: |, menu: |: ",
+        b", scene: |, prg: |, chr: |, revision: |, mirroring: |, writes: |, window: |, letters: |, menu: |, file: |: ",
         column,
     )
 }
@@ -146,7 +155,20 @@ pub(crate) fn put_word_fault(
         |' is too large\n\
         |' is no revision: A or B\n\
         |' is no mirroring: V, H, A, B or 4\n\
-        |' is more than one word\n",
+        |' is more than one word\n\
+        |' is not what the file says, \
+        |' can't be read\n\
+        |' is ",
         fault,
     )
+}
+
+// What a file says in a column, as a cell says it.
+pub(crate) fn put_said(out: &mut [u8; ROOM], len: usize, column: usize, said: u32) -> usize {
+    let numbers = [said];
+    match column {
+        REVISION => put_nth(out, len, b"A\n|B\n", said as usize),
+        MIRRORING => put_nth(out, len, b"V\n|H\n|A\n|B\n|4\n", said as usize),
+        _ => put_form(out, len, b"%d\n", &numbers),
+    }
 }

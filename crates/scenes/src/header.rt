@@ -13,7 +13,7 @@ use text_output::ROOM;
 use text_output::forms::put_nth;
 
 // Where the header starts and ends, how many cells it has, whether it will do, and how many bytes the output buffer holds.
-pub struct Header {
+pub struct HeaderRow {
     pub start: usize,
     pub next: usize,
     pub cells: usize,
@@ -64,7 +64,7 @@ fn name_fault(text: &[u8], header: usize, k: usize, name: &[u8]) -> usize {
 }
 
 // Takes the next cell, which holds a name.
-fn take(given: Header, text: &[u8], out: &mut [u8; ROOM], cell: Cell, name: &[u8]) -> Header {
+fn take(given: HeaderRow, text: &[u8], out: &mut [u8; ROOM], cell: Cell, name: &[u8]) -> HeaderRow {
     let mut header = given;
     let fault = name_fault(text, given.start, given.cells, name);
     let len = put_named(out, given.len, name, cell.quoted, fault);
@@ -89,9 +89,9 @@ fn header_start(text: &[u8]) -> usize {
     0
 }
 
-pub(crate) fn read_header(text: &[u8], out: &mut [u8; ROOM], len: usize) -> Header {
+pub(crate) fn read_header_row(text: &[u8], out: &mut [u8; ROOM], len: usize) -> HeaderRow {
     let start = header_start(text);
-    let mut header = Header {
+    let mut header = HeaderRow {
         start,
         next: start,
         cells: 0,

@@ -10,6 +10,7 @@ mod reading;
 mod row;
 mod run;
 mod scene;
+mod source;
 mod totals;
 
 use crate::run::run;
@@ -30,21 +31,22 @@ fn was_read(fd: i32) -> bool {
     libc::read(fd, &mut more) >= 0
 }
 
-fn run_sheet(text: &[u8; SHEET], n: usize) {
+fn run_sheet(sheet: &[u8], text: &[u8; SHEET], n: usize) {
     let all: &[u8] = text;
     if n <= all.len() {
-        run(&all[0..n]);
+        run(sheet, &all[0..n]);
     }
 }
 
-fn play(fd: i32, name: &[u8]) {
+// The names of cartridge files are taken from the folder of the sheet's path.
+fn play(fd: i32, name: &[u8], sheet: &[u8]) {
     let mut text = [0u8; SHEET];
     let n = read_sheet(fd, &mut text);
     if !was_read(fd) {
         os::fail(name);
         return;
     }
-    run_sheet(&text, n);
+    run_sheet(sheet, &text, n);
 }
 
 fn play_file(path: &[u8]) {
@@ -53,7 +55,7 @@ fn play_file(path: &[u8]) {
         os::fail(path);
         return;
     }
-    play(fd, path);
+    play(fd, path, path);
     libc::close(fd);
 }
 
@@ -73,7 +75,7 @@ fn play_argument(i: usize, several: bool) {
 fn main() {
     let count = os::arg_count();
     if count < 2 {
-        play(STDIN_FILENO, b"standard input");
+        play(STDIN_FILENO, b"standard input", b"");
         return;
     }
     let mut i: usize = 1;

@@ -2,7 +2,6 @@
 use crate::scene::Scene;
 use host_creation::NumberedSettings;
 use irq::VrcIrq;
-use memory_layout::MemoryLayout;
 use scene_board::ended::Ended;
 use scene_board::ended::play_scene;
 
@@ -15,40 +14,41 @@ fn none() -> Ended {
     }
 }
 
-// The longest fixed buffer that a layout can ask: no sheet says what ROM holds, so its bytes are 0.
+// The longest fixed buffer that a layout can ask. No step reads a byte of ROM, so its bytes are 0, whatever a file holds.
 pub(crate) fn rom() -> [u8; 525312] {
     [0; 525312]
 }
 
-// PRG RAM and CIRAM are those of layout S.
-fn layout_of(scene: Scene) -> MemoryLayout {
-    MemoryLayout {
-        prg_rom: scene.prg,
-        chr: scene.chr,
-        chr_writable: false,
-        prg_ram: 8192,
-        ciram: 2048,
-    }
-}
+// PRG RAM, CHR that is RAM, and CIRAM of four screens.
+const MOST_RAM: usize = 20480;
 
-// The bytes of both.
-fn ram() -> [u8; 10240] {
-    [0; 10240]
+fn ram() -> [u8; MOST_RAM] {
+    [0; MOST_RAM]
 }
 
 fn settings_of(scene: Scene) -> NumberedSettings {
     NumberedSettings::new((scene.mirroring % 256) as u8, scene.revision_b as u8)
 }
 
-// The fixed buffer is the longest, so the second test holds.
+// The fixed buffer is the longest, and no row asks more RAM than MOST_RAM, so the inner tests hold.
 pub(crate) fn play_steps(scene: Scene, fixed: &[u8], writes: &[u32], menu: &[u32]) -> Ended {
-    let layout = layout_of(scene);
+    let layout = scene.layout;
     let settings = settings_of(scene);
     let mut changing = ram();
     if layout.within_limits() {
         let n = layout.fixed_length() as usize;
+        let m = layout.changing_length() as usize;
         if n <= fixed.len() {
-            return play_scene(layout, settings, &fixed[0..n], &mut changing, writes, menu);
+            if m <= MOST_RAM {
+                return play_scene(
+                    layout,
+                    settings,
+                    &fixed[0..n],
+                    &mut changing[0..m],
+                    writes,
+                    menu,
+                );
+            }
         }
     }
     none()

@@ -7,106 +7,98 @@ use crate::faults::MIRRORING;
 use crate::faults::NO_DECIMAL;
 use crate::faults::NO_MIRRORING;
 use crate::faults::NO_REVISION;
+use crate::faults::NOT_THE_FILE;
 use crate::faults::PRG;
 use crate::faults::Place;
 use crate::faults::REVISION;
 use crate::faults::TOO_LARGE;
 use crate::faults::WINDOW;
 use crate::faults::WRITES;
+use crate::faults::put_said;
 use crate::faults::put_word_fault;
 use crate::lists::read_words;
 use crate::row::Starts;
 use crate::row::cell_in;
 use crate::scene::NO_WINDOW;
 use crate::scene::Scene;
-use scene_cells::choices::mirroring_of;
-use scene_cells::choices::revision_of;
+use crate::source::Source;
+use crate::source::put_source;
+use scene_files::said::layout_for;
+use scene_files::said::said_in;
+use scene_files::singles::Single;
+use scene_files::singles::single_of;
 use text_output::ROOM;
 use text_words::next_word;
-use text_words::number::Number;
-use text_words::number::in_base;
 
-// What a cell of one word says, and what is wrong with it, 0 for nothing.
-pub struct Single {
-    pub value: u32,
-    pub fault: usize,
-}
-
-fn good(value: u32) -> Single {
-    Single { value, fault: 0 }
-}
-
-fn faulty(fault: usize) -> Single {
-    Single { value: 0, fault }
-}
-
-// A decimal number up to a limit.
-fn number_of(word: &[u8], limit: u32) -> Single {
-    match in_base(word, 10, limit) {
-        Number::Value(n) => good(n),
-        Number::NoNumber => faulty(NO_DECIMAL),
-        Number::TooLarge => faulty(TOO_LARGE),
+fn value_of(single: Single) -> u32 {
+    if let Single::Value(n) = single {
+        return n;
     }
+    0
 }
 
-// One of so many choices.
-fn choice_of(choice: u8, count: u8, fault: usize) -> Single {
-    if choice < count {
-        return good(choice as u32);
-    }
-    faulty(fault)
-}
-
-fn word_of(word: &[u8], column: usize) -> Single {
+// What is wrong with a cell that has no value of its column.
+fn no_value(column: usize) -> usize {
     match column {
-        REVISION => choice_of(revision_of(word), 2, NO_REVISION),
-        MIRRORING => choice_of(mirroring_of(word), 5, NO_MIRRORING),
-        WINDOW => number_of(word, 1000000),
-        _ => number_of(word, 262144),
+        REVISION => NO_REVISION,
+        MIRRORING => NO_MIRRORING,
+        _ => NO_DECIMAL,
     }
 }
 
-// A cell of one word; `none` stands for an empty one.
-fn single_of(cell: &[u8], column: usize, none: u32) -> Single {
-    let word = next_word(cell, 0);
-    let from = word.from;
-    let to = word.to;
-    if from == to {
-        return good(none);
+// What is wrong with a cell, 0 for nothing.
+fn fault_of(single: Single, column: usize) -> usize {
+    match single {
+        Single::Value(_) => 0,
+        Single::NoValue => no_value(column),
+        Single::TooLarge => TOO_LARGE,
+        Single::ManyWords => MANY_WORDS,
+        Single::NotTheFile => NOT_THE_FILE,
     }
-    let more = next_word(cell, to);
-    if more.from != more.to {
-        return faulty(MANY_WORDS);
-    }
-    word_of(&cell[from..to], column)
 }
 
-fn single_in(text: &[u8], starts: Starts, column: usize, none: u32) -> Single {
+// What stands for an empty cell. No cartridge says a window.
+fn said_for(source: Source, column: usize) -> u32 {
+    if column == WINDOW {
+        return NO_WINDOW;
+    }
+    let cartridge = source.cartridge;
+    said_in(cartridge, (column % 256) as u8)
+}
+
+fn single_in(text: &[u8], starts: Starts, source: Source, column: usize) -> Single {
     let span = cell_in(text, starts, column);
     let from = span.from;
     let to = span.to;
-    single_of(&text[from..to], column, none)
+    let said = said_for(source, column);
+    let from_file = source.from_file & (column != WINDOW);
+    single_of(&text[from..to], (column % 256) as u8, said, from_file)
 }
 
 // The cells of one word.
-fn read_singles(text: &[u8], starts: Starts) -> Scene {
-    let mut scene = Scene::new();
-    let prg = single_in(text, starts, PRG, scene.prg);
-    let chr = single_in(text, starts, CHR, scene.chr);
-    let revision = single_in(text, starts, REVISION, 0);
-    let mirroring = single_in(text, starts, MIRRORING, 0);
-    let window = single_in(text, starts, WINDOW, NO_WINDOW);
-    scene.prg = prg.value;
-    scene.chr = chr.value;
-    scene.revision_b = revision.value == 1;
-    scene.mirroring = mirroring.value;
-    scene.window = window.value;
-    scene.good = (prg.fault == 0)
-        & (chr.fault == 0)
-        & (revision.fault == 0)
-        & (mirroring.fault == 0)
-        & (window.fault == 0);
-    scene
+fn read_singles(text: &[u8], starts: Starts, source: Source) -> Scene {
+    let prg = single_in(text, starts, source, PRG);
+    let chr = single_in(text, starts, source, CHR);
+    let revision = single_in(text, starts, source, REVISION);
+    let mirroring = single_in(text, starts, source, MIRRORING);
+    let window = single_in(text, starts, source, WINDOW);
+    let good = (fault_of(prg, PRG) == 0)
+        & (fault_of(chr, CHR) == 0)
+        & (fault_of(revision, REVISION) == 0)
+        & (fault_of(mirroring, MIRRORING) == 0)
+        & (fault_of(window, WINDOW) == 0);
+    let cartridge = source.cartridge;
+    let layout = layout_for(cartridge, source.from_file, value_of(prg), value_of(chr));
+    Scene {
+        layout,
+        revision_b: value_of(revision) == 1,
+        mirroring: value_of(mirroring),
+        window: value_of(window),
+        writes: 0,
+        menu: 0,
+        good: good & (source.fault == 0),
+        len: 0,
+    }
 }
 
 // What a fault shows of a cell: its word, or all of it if it has more than one.
@@ -125,6 +117,7 @@ fn put_single(
     len: usize,
     text: &[u8],
     starts: Starts,
+    source: Source,
     row: u32,
     column: usize,
 ) -> usize {
@@ -132,22 +125,33 @@ fn put_single(
     let from = span.from;
     let to = span.to;
     let cell = &text[from..to];
-    let single = single_of(cell, column, 0);
+    let fault = fault_of(single_in(text, starts, source, column), column);
     let at = Place {
         row,
         column,
         quoted: span.quoted,
     };
-    put_word_fault(out, len, at, shown(cell, single.fault), single.fault)
+    let told = put_word_fault(out, len, at, shown(cell, fault), fault);
+    if fault == NOT_THE_FILE {
+        return put_said(out, told, column, said_for(source, column));
+    }
+    told
 }
 
 // The faults of the cells of one word.
-fn put_singles(out: &mut [u8; ROOM], len: usize, text: &[u8], starts: Starts, row: u32) -> usize {
+fn put_singles(
+    out: &mut [u8; ROOM],
+    len: usize,
+    text: &[u8],
+    starts: Starts,
+    source: Source,
+    row: u32,
+) -> usize {
     let columns = [PRG, CHR, REVISION, MIRRORING, WINDOW];
     let mut n = len;
     let mut i: usize = 0;
     while i < 5 {
-        n = put_single(out, n, text, starts, row, columns[i]);
+        n = put_single(out, n, text, starts, source, row, columns[i]);
         i += 1;
     }
     n
@@ -157,6 +161,7 @@ fn put_singles(out: &mut [u8; ROOM], len: usize, text: &[u8], starts: Starts, ro
 pub(crate) fn read_scene(
     text: &[u8],
     starts: Starts,
+    source: Source,
     writes: &mut [u32],
     menu: &mut [u32],
     banks: &mut [u32],
@@ -164,8 +169,9 @@ pub(crate) fn read_scene(
     len: usize,
     row: u32,
 ) -> Scene {
-    let mut scene = read_singles(text, starts);
-    let told = put_singles(out, len, text, starts, row);
+    let mut scene = read_singles(text, starts, source);
+    let filed = put_source(out, len, text, starts, row, source.fault);
+    let told = put_singles(out, filed, text, starts, source, row);
     let first = read_words(text, starts, writes, out, told, row, WRITES);
     let second = read_words(text, starts, menu, out, first.len, row, MENU);
     let letters = read_words(text, starts, banks, out, second.len, row, LETTERS);

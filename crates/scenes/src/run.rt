@@ -7,8 +7,8 @@ use crate::faults::SCENE;
 use crate::faults::WRITES;
 use crate::faults::put_cell;
 use crate::faults::put_fault;
-use crate::header::Header;
-use crate::header::read_header;
+use crate::header::HeaderRow;
+use crate::header::read_header_row;
 use crate::playing::play_steps;
 use crate::playing::rom;
 use crate::reading::read_scene;
@@ -18,6 +18,7 @@ use crate::row::cell_in;
 use crate::row::read_row;
 use crate::scene::MOST_STEPS;
 use crate::scene::Scene;
+use crate::source::source_of;
 use crate::totals::BAD_ROW;
 use crate::totals::BLANK_ROW;
 use crate::totals::Outcome;
@@ -79,6 +80,7 @@ fn play_scene(
 }
 
 fn play_cells(
+    sheet: &[u8],
     text: &[u8],
     starts: Starts,
     fixed: &[u8],
@@ -89,9 +91,11 @@ fn play_cells(
     let mut writes = [0u32; MOST_STEPS];
     let mut menu = [0u32; MOST_STEPS];
     let mut asked = [ANY_BANK; 8];
+    let source = source_of(sheet, text, starts);
     let scene = read_scene(
         text,
         starts,
+        source,
         &mut writes,
         &mut menu,
         &mut asked,
@@ -123,6 +127,7 @@ fn row_fault(row: Row, cells: usize) -> usize {
 fn play_row(
     row: Row,
     cells: usize,
+    sheet: &[u8],
     text: &[u8],
     starts: Starts,
     fixed: &[u8],
@@ -134,7 +139,7 @@ fn play_row(
     }
     let fault = row_fault(row, cells);
     if fault == 0 {
-        return play_cells(text, starts, fixed, out, row.len, number);
+        return play_cells(sheet, text, starts, fixed, out, row.len, number);
     }
     let len = put_fault(out, row.len, number, NO_COLUMN, fault);
     if fault == BLANK {
@@ -194,7 +199,13 @@ fn finish(totals: Totals, out: &mut [u8; ROOM]) {
     flush(out, len);
 }
 
-fn play_rows(header: Header, text: &[u8], fixed: &[u8], out: &mut [u8; ROOM]) -> Totals {
+fn play_rows(
+    header: HeaderRow,
+    sheet: &[u8],
+    text: &[u8],
+    fixed: &[u8],
+    out: &mut [u8; ROOM],
+) -> Totals {
     let mut totals = Totals::new(header.len);
     let mut told: u64 = 0;
     let mut at = header.next;
@@ -211,7 +222,7 @@ fn play_rows(header: Header, text: &[u8], fixed: &[u8], out: &mut [u8; ROOM]) ->
         let number = totals.next_row();
         let row = read_row(text, starts, out, totals.len, number);
         at = row.next;
-        let outcome = play_row(row, header.cells, text, starts, fixed, out, number);
+        let outcome = play_row(row, header.cells, sheet, text, starts, fixed, out, number);
         totals = totals.add(outcome);
         told = tell(number, totals.moments, told);
     }
@@ -235,7 +246,7 @@ const NO_WRITES: usize = 3;
 // What is wrong with the header was told already, so it has no text.
 const BAD_HEADER: usize = 4;
 
-fn sheet_fault(header: Header, text: &[u8]) -> usize {
+fn sheet_fault(header: HeaderRow, text: &[u8]) -> usize {
     if MOST_BYTES < text.len() {
         return TOO_LONG;
     }
@@ -263,13 +274,14 @@ fn put_sheet_fault(out: &mut [u8; ROOM], len: usize, fault: usize) {
     flush(out, n);
 }
 
-pub(crate) fn run(text: &[u8]) {
+// Plays the sheet with this path and text.
+pub(crate) fn run(sheet: &[u8], text: &[u8]) {
     let fixed = rom();
     let mut out = [0u8; ROOM];
-    let header = read_header(text, &mut out, 0);
+    let header = read_header_row(text, &mut out, 0);
     let fault = sheet_fault(header, text);
     if fault == 0 {
-        let totals = play_rows(header, text, &fixed, &mut out);
+        let totals = play_rows(header, sheet, text, &fixed, &mut out);
         finish(totals, &mut out);
         return;
     }

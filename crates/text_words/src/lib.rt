@@ -15,14 +15,14 @@ pub struct Word {
 }
 
 // Space, tab and the line ends.
-fn is_blank(byte: u8) -> bool
+pub fn is_blank(byte: u8) -> bool
     ensures { λ r. ⌜ r ≡ isBlank byte ⌝ }
 {
     (byte == b' ') | ((9 <= byte) & (byte <= 13))
 }
 
 // The first place from `from` on where a byte is a blank, or is none; the line's end where there is no such.
-fn place_of(line: &[u8], from: usize, blank: bool) -> usize
+pub fn place_of(line: &[u8], from: usize, blank: bool) -> usize
     requires { ⌜ from ≤ length (now line) ⌝ }
     ensures { λ r. ⌜ FirstPlace (now (line .entry)) from blank r ⌝ }
 {

@@ -50,7 +50,8 @@ pub struct Banking {
     pub revision_b: bool,
 }
 
-fn mirroring_number(mirroring: Mirroring) -> u8
+// The number of a mirroring, as a board holds it.
+pub fn mirroring_number(mirroring: Mirroring) -> u8
     ensures { λ r. ⌜ r ≡ mirroringNumber mirroring ⌝ }
 {
     match mirroring {
@@ -62,7 +63,8 @@ fn mirroring_number(mirroring: Mirroring) -> u8
     }
 }
 
-fn is_b(revision: Revision) -> bool
+// Whether a revision is B.
+pub fn is_b(revision: Revision) -> bool
     ensures { λ r. ⌜ r ≡ isB revision ⌝ }
 {
     match revision {

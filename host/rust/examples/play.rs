@@ -1,16 +1,24 @@
 //! A player's loop in small, as host/c/main.c: it prints the same lines.
-use vrc6::{Level, MemoryLayout, Refusal, Settings, Vrc6};
-
-const LAYOUT: MemoryLayout =
-    MemoryLayout { prg_rom: 131_072, chr: 131_072, chr_writable: false, prg_ram: 8192, ciram: 2048 };
+use vrc6::{Cartridge, Level, Refusal, Settings, Vrc6};
 
 /// What the bus holds whenever this program reads.
 const BUS: u8 = 165;
 
-/// A page of zeros, then each page of PRG ROM and of CHR filled with its number.
-fn made_up_rom() -> Vec<u8> {
+/// The file that a host would read from disk: mapper 24, vertical, each page of PRG and of CHR filled with its number.
+fn made_up_file() -> Vec<u8> {
+    let header = [0x4E, 0x45, 0x53, 0x1A, 8, 16, 0x81, 0x10, 0, 0, 0, 0, 0, 0, 0, 0];
     let numbers = (0..128).chain(0..128);
-    std::iter::repeat_n(0, 1024).chain(numbers.flat_map(|n| std::iter::repeat_n(n, 1024))).collect()
+    header.into_iter().chain(numbers.flat_map(|n| std::iter::repeat_n(n, 1024))).collect()
+}
+
+/// The board of the file, with open bus.
+fn start(file: &[u8]) -> Result<Vrc6, Refusal> {
+    let Cartridge { layout, mirroring, revision, prg_start, chr_start } = Cartridge::parse(file)?;
+    let (mirroring, revision) = (mirroring as u8, revision as u8);
+    print!("file {} bytes: PRG at {prg_start}, CHR at {chr_start}, ", file.len());
+    println!("mirroring {mirroring}, revision {revision}");
+    println!("fixed {} bytes, changing {} bytes", layout.fixed_length(), layout.changing_length());
+    Vrc6::from_ines_with(file, |stated| Settings { open_bus: true, ..stated })
 }
 
 fn banks(v: &mut Vrc6) -> Result<(), Refusal> {
@@ -63,10 +71,7 @@ fn pages(v: &mut Vrc6) -> Result<(), Refusal> {
 }
 
 fn main() -> Result<(), Refusal> {
-    let changing = vec![0x5A; LAYOUT.changing_length()];
-    println!("fixed {} bytes, changing {} bytes", LAYOUT.fixed_length(), LAYOUT.changing_length());
-    let settings = Settings { open_bus: true, ..Settings::default() };
-    let mut v = Vrc6::new(LAYOUT, settings, made_up_rom(), changing)?;
+    let mut v = start(&made_up_file())?;
     banks(&mut v)?;
     interrupt(&mut v)?;
     sound(&mut v)?;

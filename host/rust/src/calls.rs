@@ -4,7 +4,9 @@
 //!
 //! What the archive cannot check, Rust's types promise: a reference is live and not aliased, a slice is as long as it
 //! says, a bool is 0 or 1. The archive keeps no pointer.
-use crate::records::{Board, EncodedForecast, EncodedLevel, MemoryLayout, NumberedSettings, PageAt, Peeked, Tick};
+use crate::records::{
+    Board, EncodedCartridge, EncodedForecast, EncodedLevel, MemoryLayout, NumberedSettings, PageAt, Peeked, Tick,
+};
 
 // A slice crosses as a pointer and a length.
 #[rustfmt::skip]
@@ -36,6 +38,10 @@ unsafe extern "C" {
     fn vrc6_page_view(
         board: *mut Board, fixed: *const u8, fixed_len: usize, changing: *const u8, changing_len: usize, addr: u16,
     ) -> PageAt;
+    fn vrc6_read_header(file: *const u8, file_len: usize) -> EncodedCartridge;
+    fn vrc6_fill(
+        file: *const u8, file_len: usize, fixed: *mut u8, fixed_len: usize, changing: *mut u8, changing_len: usize,
+    ) -> u8;
 }
 
 pub fn create(
@@ -103,4 +109,18 @@ pub fn forecast(board: &mut Board) -> EncodedForecast {
 pub fn page_view(board: &mut Board, fixed: &[u8], changing: &[u8], addr: u16) -> PageAt {
     // SAFETY: one live board; two live slices with their own lengths, only read.
     unsafe { vrc6_page_view(board, fixed.as_ptr(), fixed.len(), changing.as_ptr(), changing.len(), addr) }
+}
+
+/// What the header of a cartridge file states; `file` is the whole file. Refused by 5, 6 or 7.
+pub fn read_header(file: &[u8]) -> EncodedCartridge {
+    // SAFETY: a live slice with its own length, only read.
+    unsafe { vrc6_read_header(file.as_ptr(), file.len()) }
+}
+
+/// `fixed` becomes a page of zeros, the file's PRG, and its CHR if it is not writable; `changing` becomes zeros.
+/// Refused by 5, 6 or 7 as [`read_header`], then by 2 if a buffer's length is not the layout's.
+pub fn fill(file: &[u8], fixed: &mut [u8], changing: &mut [u8]) -> u8 {
+    let (f, c) = (fixed, changing);
+    // SAFETY: three live slices with their own lengths, one only read, the others not aliased and written in place.
+    unsafe { vrc6_fill(file.as_ptr(), file.len(), f.as_mut_ptr(), f.len(), c.as_mut_ptr(), c.len()) }
 }

@@ -1,12 +1,15 @@
-//! The proved VRC6 board for Rust hosts. [`Vrc6`] owns a board and its two buffers; [`calls`] has the same calls for a
-//! host that keeps them itself.
+//! The proved VRC6 board for Rust hosts. [`Vrc6`] owns a board and its two buffers, and [`Vrc6::from_ines`] makes both
+//! from a cartridge file; [`calls`] has the same calls for a host that keeps board and buffers itself.
 pub mod calls;
+mod cartridge;
 pub mod records;
 
+pub use cartridge::Cartridge;
 pub use records::{Board, MemoryLayout};
 
-/// Why a call is refused: the first condition that fails, in this order. A refused call leaves board and buffers as they
-/// were; a refused create leaves the zero board, and [`Vrc6::new`] gives none.
+/// Why a call is refused: the first condition that fails, in this order, but that a file is checked before buffers are.
+/// A refused call leaves board and buffers as they were; a refused create leaves the zero board, and [`Vrc6::new`] gives
+/// none.
 #[derive(Debug, Clone, Copy, PartialEq, Eq)]
 pub enum Refusal {
     /// A length of the layout is above its limit.
@@ -17,6 +20,12 @@ pub enum Refusal {
     Values = 3,
     /// The first 1,024 bytes of the fixed buffer are not all zero.
     Zeros = 4,
+    /// A file has fewer than 16 bytes, or its first four are not 4E 45 53 1A.
+    Header = 5,
+    /// A file's mapper is not 24 or 26, or its header is of the newer edition (NES 2.0).
+    Mapper = 6,
+    /// A file states a length above its limit, or ends early.
+    File = 7,
 }
 
 impl std::fmt::Display for Refusal {
@@ -26,13 +35,16 @@ impl std::fmt::Display for Refusal {
             Refusal::Lengths => "a buffer's length is not the layout's",
             Refusal::Values => "a value is out of range",
             Refusal::Zeros => "the fixed buffer's first page is not all zero",
+            Refusal::Header => "the file does not begin with an iNES header",
+            Refusal::Mapper => "the file is of another mapper than 24 and 26, or of the newer edition of headers",
+            Refusal::File => "a length in the file's header is above its limit, or the file ends early",
         })
     }
 }
 
 impl std::error::Error for Refusal {}
 
-/// The answer, unless the number beside it is a refusal's. Contracts allow no number above 4.
+/// The answer, unless the number beside it is a refusal's. Contracts allow no number above 7.
 pub fn unless<T>(refusal: u8, answer: T) -> Result<T, Refusal> {
     match refusal {
         0 => Ok(answer),
@@ -40,6 +52,9 @@ pub fn unless<T>(refusal: u8, answer: T) -> Result<T, Refusal> {
         2 => Err(Refusal::Lengths),
         3 => Err(Refusal::Values),
         4 => Err(Refusal::Zeros),
+        5 => Err(Refusal::Header),
+        6 => Err(Refusal::Mapper),
+        7 => Err(Refusal::File),
         n => unreachable!("refusal {n}"),
     }
 }
@@ -96,6 +111,34 @@ impl Vrc6 {
         let mut board = Board::default();
         let refusal = calls::create(&mut board, layout, settings.into(), &fixed, &changing);
         unless(refusal, Vrc6 { board, fixed, changing })
+    }
+
+    /// The board of a cartridge file (iNES), `file` being all its bytes, with the settings that its header states.
+    /// RAM is all 0. Refused as [`Cartridge::parse`] is.
+    ///
+    /// ```no_run
+    /// let file = std::fs::read("title.nes")?;
+    /// let board = vrc6::Vrc6::from_ines(&file)?;
+    /// # Ok::<(), Box<dyn std::error::Error>>(())
+    /// ```
+    pub fn from_ines(file: &[u8]) -> Result<Self, Refusal> {
+        Self::from_ines_with(file, |stated| stated)
+    }
+
+    /// The same with other settings than the header states:
+    ///
+    /// ```no_run
+    /// use vrc6::{Settings, Vrc6};
+    /// # let file = [];
+    /// let board = Vrc6::from_ines_with(&file, |stated| Settings { open_bus: true, ..stated })?;
+    /// # Ok::<(), vrc6::Refusal>(())
+    /// ```
+    pub fn from_ines_with(file: &[u8], settings: impl FnOnce(Settings) -> Settings) -> Result<Self, Refusal> {
+        let cartridge = Cartridge::parse(file)?;
+        let mut fixed = vec![0; cartridge.layout.fixed_length()];
+        let mut changing = vec![0; cartridge.layout.changing_length()];
+        unless(calls::fill(file, &mut fixed, &mut changing), ())?;
+        Self::new(cartridge.layout, settings(cartridge.settings()), fixed, changing)
     }
 
     /// The board's values, to look at.

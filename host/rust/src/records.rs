@@ -191,6 +191,19 @@ pub struct PageAt {
     pub refusal: u8,
 }
 
+/// What a cartridge file says, by numbers: mirroring 0 to 4, revision 0 for A and 1 for B. Refused, all is 0 but the
+/// number.
+#[repr(C)]
+#[derive(Debug, Clone, Copy, PartialEq, Eq, Default)]
+pub struct EncodedCartridge {
+    pub layout: MemoryLayout,
+    pub mirroring: u8,
+    pub revision: u8,
+    pub prg_start: u32,
+    pub chr_start: u32,
+    pub refusal: u8,
+}
+
 // The places that include/vrc6.h asserts, and host/c sees the archive use.
 macro_rules! places {
     ($record:ident: $size:literal; $($field:tt $at:literal),+) => {
@@ -213,3 +226,4 @@ places!(Peeked: 2; byte 0, refusal 1);
 places!(EncodedLevel: 8; level 0, name 4, refusal 5);
 places!(EncodedForecast: 8; clocks 0, armed 4, refusal 5);
 places!(PageAt: 8; offset 0, changing 4, refusal 5);
+places!(EncodedCartridge: 36; layout 0, mirroring 20, revision 21, prg_start 24, chr_start 28, refusal 32);

@@ -35,8 +35,9 @@ fn refused_without_buffers(board: Board) {
 /// A board that was created has no value out of range, so no call on it shows what number 3 becomes.
 #[test]
 fn each_number_is_its_refusal() {
-    let refusals = [Refusal::Limits, Refusal::Lengths, Refusal::Values, Refusal::Zeros];
-    for (number, refusal) in (1..).zip(refusals) {
+    let of_boards = [Refusal::Limits, Refusal::Lengths, Refusal::Values, Refusal::Zeros];
+    let of_files = [Refusal::Header, Refusal::Mapper, Refusal::File];
+    for (number, refusal) in (1..).zip(of_boards.into_iter().chain(of_files)) {
         assert_eq!(unless(number, ()), Err(refusal));
         assert_eq!(refusal as u8, number);
     }

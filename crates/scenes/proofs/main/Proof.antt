@@ -16,6 +16,9 @@ arg-count-requires c κs = search needs
 slice-aggregate-play : tie.Need-slice-aggregate-play Inv-loop μ-loop
 slice-aggregate-play c = search needs
 
+slice-aggregate-play-2 : tie.Need-slice-aggregate-play-2 Inv-loop μ-loop
+slice-aggregate-play-2 c = search needs
+
 play-requires : tie.Need-play-requires Inv-loop μ-loop
 play-requires c κs = search needs
 
@@ -48,6 +51,7 @@ main-spec =
     μ-loop
     arg-count-requires
     slice-aggregate-play
+    slice-aggregate-play-2
     play-requires
     returns
     loop-holds

@@ -5,9 +5,6 @@ use Rattle.memory_layout.proofs.Limited.{limits}
 use Rattle.scenes.proofs.playing.play_steps.Statement.{statement}
 use Rattle.scenes.proofs.playing.play_steps.Tie as tie
 
-layout-of-requires : tie.Need-layout-of-requires
-layout-of-requires c κs = search needs
-
 settings-of-requires : tie.Need-settings-of-requires
 settings-of-requires c κs = search needs
 
@@ -23,6 +20,12 @@ fixed-length-requires c κs = limits _ (sym (c .before .within-limits .ensures) 
 cast-n : tie.Need-cast-n
 cast-n c = search needs
 
+changing-length-requires : tie.Need-changing-length-requires
+changing-length-requires c κs = limits _ (sym (c .before .before .within-limits .ensures) ∙ c .before .if1 .taken)
+
+cast-m : tie.Need-cast-m
+cast-m c = search needs
+
 sub-play-scene : tie.Need-sub-play-scene
 sub-play-scene c = search needs
 
@@ -32,8 +35,14 @@ part-play-scene-start c = search needs
 part-play-scene-end : tie.Need-part-play-scene-end
 part-play-scene-end c = search needs
 
-slice-aggregate-play-scene : tie.Need-slice-aggregate-play-scene
-slice-aggregate-play-scene c = search needs
+sub-play-scene-2 : tie.Need-sub-play-scene-2
+sub-play-scene-2 c = search needs
+
+part-changing-start : tie.Need-part-changing-start
+part-changing-start c = search needs
+
+part-changing-end : tie.Need-part-changing-end
+part-changing-end c = search needs
 
 play-scene-requires : tie.Need-play-scene-requires
 play-scene-requires c κs = search needs
@@ -51,16 +60,19 @@ pub play-steps-spec : {M : Type 1} → statement M
 play-steps-spec =
     tie.close
     (tie.spec
-    layout-of-requires
     settings-of-requires
     ram-requires
     within-limits-requires
     fixed-length-requires
     cast-n
+    changing-length-requires
+    cast-m
     sub-play-scene
     part-play-scene-start
     part-play-scene-end
-    slice-aggregate-play-scene
+    sub-play-scene-2
+    part-changing-start
+    part-changing-end
     play-scene-requires
     returns
     none-requires

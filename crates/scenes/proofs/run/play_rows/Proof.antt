@@ -4,10 +4,10 @@ use Rattle.scenes.proofs.run.play_rows.Statement.{statement}
 use Rattle.scenes.proofs.run.play_rows.Tie as tie
 
 abbrev Inv-loop : tie.InvT-loop
-Inv-loop header text fixed out₀ totals₀ told₀ at₀ left₀ out totals told at left = Unit {0}
+Inv-loop header sheet text fixed out₀ totals₀ told₀ at₀ left₀ out totals told at left = Unit {0}
 
 abbrev μ-loop : tie.MeasureT-loop
-μ-loop header text fixed out₀ totals₀ told₀ at₀ left₀ out totals told at left = left
+μ-loop header sheet text fixed out₀ totals₀ told₀ at₀ left₀ out totals told at left = left
 
 new-requires : tie.Need-new-requires Inv-loop μ-loop
 new-requires c κs = search needs

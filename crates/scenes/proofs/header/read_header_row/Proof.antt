@@ -1,7 +1,7 @@
--- `read_header` is safe and ends. Assumes nothing.
+-- `read_header_row` is safe and ends. Assumes nothing.
 use borrow.Author.Needs.{needs}
-use Rattle.scenes.proofs.header.read_header.Statement.{statement}
-use Rattle.scenes.proofs.header.read_header.Tie as tie
+use Rattle.scenes.proofs.header.read_header_row.Statement.{statement}
+use Rattle.scenes.proofs.header.read_header_row.Tie as tie
 
 abbrev Inv-loop : tie.InvT-loop
 Inv-loop text out₀ len start header₀ left₀ out header left = Unit {0}
@@ -48,8 +48,8 @@ returns c = search needs
 returns-2 : tie.Need-returns-2 Inv-loop μ-loop
 returns-2 c = search needs
 
-pub read-header-spec : {M : Type 1} → statement M
-read-header-spec =
+pub read-header-row-spec : {M : Type 1} → statement M
+read-header-row-spec =
     tie.close
     (tie.spec
     Inv-loop

@@ -1,0 +1,3 @@
+pub mod Ines
+pub mod Laws
+pub mod Examples

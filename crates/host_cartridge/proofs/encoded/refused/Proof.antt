@@ -1,0 +1,10 @@
+-- `refused` meets its contract. Assumes nothing.
+use mathlib.Core.Path.{refl}
+use Rattle.host_cartridge.proofs.encoded.refused.Statement.{statement}
+use Rattle.host_cartridge.proofs.encoded.refused.Tie as tie
+
+returns : tie.Need-returns
+returns c = refl
+
+pub refused-spec : {M : Type 1} → statement M
+refused-spec = tie.close (tie.spec returns)

@@ -1,0 +1,5 @@
+pub mod Agreeing
+pub mod Copies
+pub mod Ends
+pub mod Places
+pub mod Shown

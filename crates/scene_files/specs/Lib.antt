@@ -1,0 +1,5 @@
+pub mod Laws
+pub mod Names
+pub mod Paths
+pub mod Said
+pub mod Singles
