@@ -50,7 +50,7 @@ pub struct Banking {
     pub revision_b: bool,
 }
 
-// The number of a mirroring, as a board holds it.
+// The number that a board holds for a mirroring.
 pub fn mirroring_number(mirroring: Mirroring) -> u8
     ensures { λ r. ⌜ r ≡ mirroringNumber mirroring ⌝ }
 {
