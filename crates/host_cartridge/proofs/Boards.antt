@@ -1,4 +1,4 @@
--- A board from an accepted file. Assumes nothing.
+-- The numbers of a fill, and a board from an accepted file. Assumes nothing.
 use mathlib.Core.Path.{_≡_, refl, sym, ap, _∙_}
 use mathlib.Core.Bool.{true, cond}
 use mathlib.Core.List.{[], _∷_}
@@ -6,14 +6,14 @@ use mathlib.Core.Logic.{inl, inr}
 use lib.ListN.{length, replicate, take}
 use borrow.Author.Tests.{eq-eqb}
 use Rattle.base_shared.proofs.Tests.{both, tested}
-use Rattle.base_shared.proofs.Numbers.{decided-behind}
+use Rattle.base_shared.proofs.Numbers.{decided-behind, numbered-law}
 use Rattle.memory_layout.specs.Layout.{withinLimits, lengthsFit, layoutChecks, fixedLength, changingLength}
 use Rattle.vrc6_parts.specs.Checks.{allZero}
 use Rattle.vrc6.specs.Boards.{Creation}
 use Rattle.vrc6.specs.Calls.{create}
 use Rattle.cartridge_header.proofs.Places.{in-file-law}
-use Rattle.host_cartridge.specs.Filled.{fixedOf}
-use Rattle.host_cartridge.specs.Laws.{TakenLaw, LoadedLaw}
+use Rattle.host_cartridge.specs.Filled.{fillChecks, fillRefusal, fixedOf}
+use Rattle.host_cartridge.specs.Laws.{FillNumbersLaw, TakenLaw, LoadedLaw}
 use Rattle.host_cartridge.proofs.Loading.{loaded-length}
 use Rattle.host_cartridge.proofs.Runs.{length-zeros}
 
@@ -23,6 +23,10 @@ decided : (k : Creation) → withinLimits (k .layout) ≡ true → length (k .fi
 decided k w f c =
     decided-behind (layoutChecks (k .layout) (length (k .fixed)) (length (k .changing))) ((allZero (take 1024 (k .fixed)), 4) ∷ [])
     (w, (both (eq-eqb (length (k .fixed)) (fixedLength (k .layout)) f) (eq-eqb (length (k .changing)) (changingLength (k .layout)) c), tt))
+
+pub fill-numbers-law : FillNumbersLaw
+fill-numbers-law file fixed changing =
+    numbered-law (fillChecks file fixed changing) refl (fillRefusal file fixed changing) refl
 
 pub taken-law : TakenLaw
 taken-law file c h k l f g =

@@ -1,24 +1,23 @@
 -- An accepted file and the buffers of its layout: their lengths, the refusal's number, the bytes. Assumes nothing.
 use mathlib.Core.Path.{_≡_, refl, sym, ap, ap₂, _∙_}
-use mathlib.Core.Bool.{Bool, true, false, cond, _&&_}
-use mathlib.Core.List.{List, [], _∷_, _++_}
-use Prim.Native.Nat.{ℕ, _+_, _*_, _≤_, _<_}
+use mathlib.Core.Bool.{true, false, cond}
+use mathlib.Core.List.{List, [], _∷_}
+use Prim.Native.Nat.{ℕ, _+_, _*_, _≤_}
 use native.Mathlib.Omega.{arith}
 use lib.Dec.{eqb}
 use lib.ListN.{length, replicate, take, drop, length-append, length-drop}
 use lib.Seq.{length-take-le}
 use borrow.Author.Tests.{eqb-true}
-use Rattle.base_shared.specs.Refusals.{firstFailing, unless}
+use Rattle.base_shared.specs.Refusals.{firstFailing}
 use Rattle.base_shared.proofs.Tests.{and-left, tested, first-refused, unless-done, unless-refused}
 use Rattle.base_shared.proofs.Numbers.{none-fails, decided-behind}
-use Rattle.memory_layout.specs.declared.regions.MemoryLayout.{MemoryLayout}
 use Rattle.memory_layout.specs.Required.{Limits}
 use Rattle.memory_layout.proofs.Limited.{limits}
 use Rattle.memory_layout.specs.Layout.{wholePages, fixedChr, fixedLength, changingLength, lengthsFit}
 use Rattle.cartridge.specs.declared.cartridge.Cartridge.{Cartridge}
 use Rattle.cartridge.specs.declared.cartridge.NesHeader.{NesHeader}
 use Rattle.cartridge_header.specs.declared.HeaderRead.the-variants.{Accepted, Refused}
-use Rattle.cartridge.specs.Cartridges.{cartridgeOf, chrStart, fileEnd, prgStart, statedLayout}
+use Rattle.cartridge.specs.Cartridges.{prgStart, statedLayout}
 use Rattle.cartridge_header.specs.Ines.{headerChecks, readHeader, statedBy}
 use Rattle.cartridge_header.proofs.Meanings.{file-end}
 use Rattle.cartridge_header.proofs.Numbers.{accepted-by, refused-number}

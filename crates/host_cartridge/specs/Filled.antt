@@ -14,9 +14,12 @@ abbrev pub cartridgeIn : List ℕ → Cartridge
 cartridgeIn file = cartridgeOf (statedBy file)
 
 -- 5, 6 and 7 of the header, then 2: buffers of these lengths are not the layout's (02, change 2; 01, The board's calls 3)
+abbrev pub fillChecks : (file : List ℕ) (fixed changing : ℕ) → List (Bool × ℕ)
+fillChecks file fixed changing = headerChecks file ++ (lengthsFit (cartridgeIn file .layout) fixed changing, 2) ∷ []
+
+-- the first failing of them (02, change 2)
 abbrev pub fillRefusal : (file : List ℕ) (fixed changing : ℕ) → ℕ
-fillRefusal file fixed changing =
-    firstFailing (headerChecks file ++ (lengthsFit (cartridgeIn file .layout) fixed changing, 2) ∷ [])
+fillRefusal file fixed changing = firstFailing (fillChecks file fixed changing)
 
 -- n bytes of a file from a place on
 abbrev pub bytesFrom : (start n : ℕ) → List ℕ → List ℕ

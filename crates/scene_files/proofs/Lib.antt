@@ -1,5 +1,2 @@
 pub mod Agreeing
-pub mod Copies
-pub mod Ends
-pub mod Places
 pub mod Shown

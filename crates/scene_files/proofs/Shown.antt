@@ -1,7 +1,7 @@
 -- The laws, and the examples, computed. Assumes nothing.
 use mathlib.Core.Path.{_≡_, refl, sym, ap, _∙_}
-use mathlib.Core.Bool.{Bool, true, false, cond, not, _&&_}
-use mathlib.Core.List.{List, [], _∷_}
+use mathlib.Core.Bool.{Bool, true, false, cond, not}
+use mathlib.Core.List.{List}
 use Prim.Native.Nat.{ℕ}
 use borrow.Author.Tests.{eqb-true}
 use lib.Dec.{eqb}
@@ -11,30 +11,10 @@ use Rattle.text_words.specs.declared.number.Number.the-variants as number
 use Rattle.text_words.specs.Names.{placeIn}
 use Rattle.text_words.specs.Numbers.{numberOf}
 use Rattle.text_words.specs.Words.{fromWord, pastWord, wordOf}
-use Rattle.scene_cells.specs.Laws.{doubled}
 use Rattle.scene_files.specs.declared.singles.Single.{Single}
 use Rattle.scene_files.specs.declared.singles.Single.the-variants.{Value, ManyWords, NotTheFile}
-use Rattle.scene_files.specs.Laws.{AgreedLaw, FileExamples, UnquotedLaw}
-use Rattle.scene_files.specs.Paths.{unquoted, unquotedBehind}
+use Rattle.scene_files.specs.Laws.{AgreedLaw, FileExamples}
 use Rattle.scene_files.specs.Singles.{compared, isEmpty, wordNumber}
-
--- a byte before a text that is written in quotes, by whether it is a quote
-abbrev written : (b : ℕ) → List ℕ → Bool → List ℕ
-written b bs t = unquoted true (cond t (34 ∷ 34 ∷ doubled bs) (b ∷ doubled bs))
-
-module _ (b : ℕ) (bs : List ℕ) (again : unquoted true (doubled bs) ≡ bs) where
-  quote : eqb b 34 ≡ true → unquoted true (doubled (b ∷ bs)) ≡ b ∷ bs
-  quote e = ap (written b bs) e ∙ ap (λ (l : List ℕ). 34 ∷ l) again ∙ ap (λ (x : ℕ). x ∷ bs) (sym (eqb-true b 34 e))
-
-  other : eqb b 34 ≡ false → unquoted true (doubled (b ∷ bs)) ≡ b ∷ bs
-  other e =
-      ap (written b bs) e
-      ∙ ap (λ (t : Bool). b ∷ unquotedBehind (t && true) true (doubled bs)) e
-      ∙ ap (λ (l : List ℕ). b ∷ l) again
-
-pub unquoted-law : UnquotedLaw
-unquoted-law [] = refl
-unquoted-law (b ∷ bs) = tested (eqb b 34) (quote b bs (unquoted-law bs)) (other b bs (unquoted-law bs))
 
 -- a value beside the file's is the file's
 same : (said m n : ℕ) → compared true said (number.Value m) ≡ Value n → n ≡ said
@@ -75,11 +55,6 @@ pub examples : FileExamples
 unfolding placeIn numberOf
 examples =
     record {
-      name = refl;
-      beside = refl;
-      below = refl;
-      current = refl;
-      root = refl;
       agrees = refl;
       empty = refl;
       otherwise = refl;

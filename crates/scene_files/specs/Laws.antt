@@ -4,29 +4,15 @@ use mathlib.Core.Bool.{true, false}
 use mathlib.Core.List.{List}
 use Prim.Native.Nat.{ℕ}
 use Rattle.text_words.specs.Names.{codes}
-use Rattle.scene_cells.specs.Laws.{doubled}
 use Rattle.scene_files.specs.declared.singles.Single.the-variants.{Value, NoValue, TooLarge, ManyWords, NotTheFile}
-use Rattle.scene_files.specs.Paths.{nameOf, pathOf, unquoted}
 use Rattle.scene_files.specs.Singles.{singleOf}
-
--- bytes that are written in quotes, each quote in them twice, are the name's (RFC 4180)
-abbrev pub UnquotedLaw : Type 0
-UnquotedLaw = (bytes : List ℕ) → unquoted true (doubled bytes) ≡ bytes
 
 -- beside a file no cell has another value than the file's
 abbrev pub AgreedLaw : Type 0
 AgreedLaw = (said column n : ℕ) (cell : List ℕ) → singleOf true said column cell ≡ Value n → n ≡ said
 
--- names, paths, and cells beside a file
--- names, paths and cells (docs/SCENES.md)
+-- cells, beside a file and without one (docs/SCENES.md)
 pub record FileExamples : Type 0 where
-  -- blanks at the ends, and one inside
-  pub name : nameOf false (codes " my game.nes ") ≡ codes "my game.nes"
-  -- from the sheet's folder, from the current one, and from the root
-  pub beside : pathOf (codes "a/b/sheet.csv") (codes "game.nes") ≡ codes "a/b/game.nes"
-  pub below : pathOf (codes "a/sheet.csv") (codes "b/game.nes") ≡ codes "a/b/game.nes"
-  pub current : pathOf (codes "sheet.csv") (codes "game.nes") ≡ codes "game.nes"
-  pub root : pathOf (codes "a/sheet.csv") (codes "/game.nes") ≡ codes "/game.nes"
   -- prg, beside a file of 262,144 bytes and without one
   pub agrees : singleOf true 262_144 1 (codes "262144") ≡ Value 262_144
   pub empty : singleOf true 262_144 1 (codes " ") ≡ Value 262_144

@@ -1,4 +1,3 @@
-// The cartridge file that a row of a sheet names: its path, what it says in the row's columns, and whether the cells agree.
-pub mod paths;
+// What a cartridge says in the columns of a row of a sheet, and whether the row's cells agree with it.
 pub mod said;
 pub mod singles;

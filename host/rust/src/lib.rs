@@ -36,7 +36,7 @@ impl std::fmt::Display for Refusal {
             Refusal::Values => "a value is out of range",
             Refusal::Zeros => "the fixed buffer's first page is not all zero",
             Refusal::Header => "the file does not begin with an iNES header",
-            Refusal::Mapper => "the file is of another mapper than 24 and 26, or of the newer edition of headers",
+            Refusal::Mapper => "the file is of another mapper than 24 and 26, or has a NES 2.0 header",
             Refusal::File => "a length in the file's header is above its limit, or the file ends early",
         })
     }

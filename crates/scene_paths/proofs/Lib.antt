@@ -1,0 +1,4 @@
+pub mod Copies
+pub mod Ends
+pub mod Places
+pub mod Shown
