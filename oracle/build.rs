@@ -6,4 +6,9 @@ fn main() {
         println!("cargo:rerun-if-changed={dir}/libvrc6.a");
         println!("cargo:rustc-link-search=native={dir}");
     }
+    if std::env::var_os("CARGO_FEATURE_BEFORE").is_some() {
+        let dir = std::env::var("CARGO_MANIFEST_DIR").expect("cargo") + "/target/before";
+        println!("cargo:rerun-if-changed={dir}/libvrc6_before.a");
+        println!("cargo:rustc-link-search=native={dir}");
+    }
 }

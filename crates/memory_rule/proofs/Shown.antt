@@ -18,6 +18,7 @@ use Rattle.memory_layout.specs.Layout.{wholePages, ciramBytes, regionLength, fi
 use Rattle.memory_rule.specs.Rule.{remEuclid, bankCount, base, shown}
 use Rattle.memory_layout.specs.Entries.{entryInRange}
 use Rattle.memory_layout.specs.Required.{Limits}
+use Rattle.memory_rule.specs.Required.{Whole}
 use Rattle.memory_rule.specs.Laws.{ShownLaw}
 use Rattle.memory_layout.proofs.Limited.{limits}
 use Rattle.memory_layout.proofs.Entries.{Home, entry-good, unmapped-good}
@@ -140,7 +141,10 @@ module _ (l : MemoryLayout) (h : Limits l) where
         home = (omega arith, omega arith);
       }
 
--- every region ends below 2 ^ 29
+-- every region is whole pages, and ends below 2 ^ 29
+pub whole-region : (l : MemoryLayout) → Limits l → (src : Src) → Whole (region l src)
+whole-region l h src = let p = homed l h src in record { below = p .small; pages = p .lengths }
+
 pub ends : (l : MemoryLayout) → Limits l → (src : Src) → region l src .start + region l src .len ≤ 2 ^ 29
 ends l h src = homed l h src .small
 

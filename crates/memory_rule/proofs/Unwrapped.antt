@@ -18,7 +18,7 @@ use Rattle.memory_rule.specs.Required.{held, nth, octet, runEntries, unm
 use Rattle.memory_rule.proofs.Banks.{bank-low, bank-ends, base-before, first-unwrapped}
 
 -- two lists are the same where their rules are
-same-rule : {A : Type 0} (n : ℕ) (f g : ℕ → A) → ((i : ℕ) → i < n → f i ≡ g i) → tabulate n f ≡ tabulate n g
+pub same-rule : {A : Type 0} (n : ℕ) (f g : ℕ → A) → ((i : ℕ) → i < n → f i ≡ g i) → tabulate n f ≡ tabulate n g
 same-rule zero f g e = refl
 same-rule (suc n) f g e =
     ap₂ (λ (x : _) (l : List _). x ∷ l) (e 0 (omega arith)) (same-rule n (λ k. f (suc k)) (λ k. g (suc k)) (λ i h. e (suc i) (omega arith)))

@@ -1,6 +1,6 @@
 -- What the functions of this crate require of their arguments. Assumes nothing.
 use mathlib.Core.Path.{_≡_}
-use mathlib.Core.Bool.{Bool, true, _||_}
+use mathlib.Core.Bool.{Bool, true, cond, _||_}
 use mathlib.Core.List.{List}
 use Prim.Native.Nat.{ℕ, _+_, _*_, _/_, _%_, _^_, _≤_, _<_}
 use lib.Dec.{eqb, leb}
@@ -8,17 +8,18 @@ use lib.IntN.{ℤ}
 use lib.ListN.{getD}
 use Rattle.base_shared.specs.Lists.{tabulate}
 use Rattle.memory_pages.specs.declared.page.Page.{Page}
-use Rattle.memory_pages.specs.Pages.{offset, pagesOn, unmapped}
+use Rattle.memory_pages.specs.Pages.{entry, offset, pagesOn, unmapped}
 use Rattle.memory_layout.specs.declared.regions.Region.{Region}
 use Rattle.memory_rule.specs.declared.runs.EntryRun.{EntryRun}
-use Rattle.memory_rule.specs.Rule.{shown}
+use Rattle.memory_rule.specs.declared.rings.PageRing.{PageRing}
+use Rattle.memory_rule.specs.declared.rings.RingRun.{RingRun}
+use Rattle.memory_rule.specs.Rule.{bankCount, shown}
 
--- page i of a window of s bytes on a region: the region ends below 2 ^ 29, the window has 1 to 16,384 bytes
-pub record Reach (r : Region) (s i : ℕ) : Type 0 where
+-- a window of s bytes on a region: the region ends below 2 ^ 29, the window has 1 to 16,384 bytes
+pub record Reach (r : Region) (s : ℕ) : Type 0 where
   pub below : r .start + r .len ≤ 2 ^ 29
   pub some : 1 ≤ s
   pub most : s ≤ 16_384
-  pub page : i < 16
 
 -- a window of s bytes on the region does not wrap: the region has no bytes, or as many at least
 abbrev pub held : Region → (s : ℕ) → Bool
@@ -34,6 +35,33 @@ pub record Held (r : Region) (s k : ℕ) : Type 0 where
 -- the entries 8 k to 8 k + 7 of a window
 abbrev pub octet : Region → (s : ℕ) → ℤ → (k : ℕ) → List Page
 octet r s b k = tabulate 8 (λ i. shown r s b (8 * k + i))
+
+-- ---- a region as a ring of pages
+-- a region of whole pages that ends below 2 ^ 29
+pub record Whole (r : Region) : Type 0 where
+  pub below : r .start + r .len ≤ 2 ^ 29
+  pub pages : r .len % 1024 ≡ 0
+
+-- the pages of a region, one behind the other; a region of no bytes has the unmapped page alone
+abbrev pub ringOf : Region → PageRing
+ringOf r = record { first = cond (eqb (r .len) 0) unmapped (entry (r .start) (r .writable)); count = bankCount r 1024 }
+
+-- page n, counted round the ring
+abbrev pub ringPage : PageRing → (n : ℕ) → Page
+ringPage g n = pagesOn (g .first) (n % g .count)
+
+-- the ring has a page, and its last one ends below 2 ^ 30
+pub record Round (g : PageRing) : Type 0 where
+  pub some : 1 ≤ g .count
+  pub low : offset (g .first) + 1024 * g .count < 2 ^ 30
+
+-- entries 8 k to 8 k + 7 of a window of s bytes on a region, both of whole pages
+pub record Turning (r : Region) (s k : ℕ) : Type 0 where
+  pub whole : Whole r
+  pub some : 1 ≤ s
+  pub most : s ≤ 16_384
+  pub paged : s % 1024 ≡ 0
+  pub page : k < 2
 
 -- ---- runs of eight entries
 -- entry i of a run
@@ -55,6 +83,35 @@ runAt runs k = getD runs k unmappedRun
 -- entry i of runs one after the other
 abbrev pub runEntry : List EntryRun → (i : ℕ) → Page
 runEntry runs i = nth (runAt runs (i / 8)) (i % 8)
+
+-- entry i of a run round a ring
+abbrev pub ringNth : RingRun → (i : ℕ) → Page
+ringNth r i = ringPage (r .ring) (r .from + i)
+
+-- its eight entries
+abbrev pub ringEntries : RingRun → List Page
+ringEntries r = tabulate 8 (ringNth r)
+
+-- eight times the unmapped entry: `RingRun::UNMAPPED`
+abbrev pub unmappedRing : RingRun
+unmappedRing = record { ring = record { first = unmapped; count = 1 }; from = 0 }
+
+-- run k of a list of runs round rings, and behind its end a run of zeros
+abbrev pub ringAt : List RingRun → (k : ℕ) → RingRun
+ringAt runs k = getD runs k (record { ring = record { first = unmapped; count = 0 }; from = 0 })
+
+-- entry i of such runs one after the other
+abbrev pub ringEntry : List RingRun → (i : ℕ) → Page
+ringEntry runs i = ringNth (ringAt runs (i / 8)) (i % 8)
+
+-- the run begins on a page of its ring
+pub record Begun (r : RingRun) : Type 0 where
+  pub ring : Round (r .ring)
+  pub from : r .from < r .ring .count
+
+-- each of n runs does
+pub record AllBegun (n : ℕ) (runs : List RingRun) : Type 0 where
+  pub each : (k : ℕ) → k < n → Begun (ringAt runs k)
 
 -- every page of the run ends below 2 ^ 30
 pub record Small (r : EntryRun) : Type 0 where

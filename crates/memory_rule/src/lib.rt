@@ -1,4 +1,5 @@
 // The paging rule: which page of a region each entry of a window shows (tetanes-core's memory.rs, `map_pages`).
+pub mod rings;
 pub mod runs;
 
 use memory_layout::Region;
@@ -39,28 +40,15 @@ fn bank_count(region: Region, size: u32) -> u32
 
 // Where a bank begins in its region.
 fn bank_base(region: Region, size: u32, bank: i32) -> u32
-    requires { ⌜ Reach region size 0 ⌝ }
+    requires { ⌜ Reach region size ⌝ }
     ensures { λ r. ⌜ (r ≡ base region size bank) × (r ≤ 536870912) ⌝ }
 {
     rem_euclid(bank, bank_count(region, size)) * size
 }
 
-// Page i of a window of size bytes on a bank of a region.
-pub fn window_page(region: Region, size: u32, bank: i32, i: u32) -> Page
-    requires { ⌜ Reach region size i ⌝ }
-    ensures { λ r. ⌜ r ≡ shown region size bank i ⌝ }
-{
-    let len = region.len;
-    if len == 0 {
-        return Page::UNMAPPED;
-    }
-    let base = bank_base(region, size, bank);
-    Page::new(region.start + (base + 1024 * i) % len, region.writable)
-}
-
 // The first page of a window. A bank begins before its region ends, so this page never wraps.
 pub fn first_page(region: Region, size: u32, bank: i32) -> Page
-    requires { ⌜ Reach region size 0 ⌝ }
+    requires { ⌜ Reach region size ⌝ }
     ensures { λ r. ⌜ r ≡ shown region size bank 0 ⌝ }
 {
     if region.len == 0 {

@@ -1,2 +1,1 @@
 pub mod Paging
-pub mod Required

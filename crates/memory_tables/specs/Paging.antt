@@ -3,7 +3,6 @@ use mathlib.Core.List.{List}
 use Prim.Native.Nat.{ℕ, _/_, _%_}
 use lib.IntN.{ℤ}
 use lib.ListN.{getD}
-use lib.Seq.{sets}
 use Rattle.base_shared.specs.Lists.{tabulate}
 use Rattle.memory_pages.specs.declared.page.Page.{Page}
 use Rattle.memory_pages.specs.Pages.{unmapped}
@@ -13,10 +12,6 @@ use Rattle.memory_rule.specs.Rule.{shown}
 -- the entries of a window of s bytes on bank b, one for each of its pages (01, Paging 2)
 abbrev pub window : Region → (s : ℕ) → ℤ → List Page
 window r s b = tabulate (s / 1024) (shown r s b)
-
--- a table of which a run is replaced, from the entry of an address on (01, Paging 1; memory.rs, map_prg; memory.rs, map_chr)
-abbrev pub replaced : List Page → (address : ℕ) → List Page → List Page
-replaced table address run = sets table (address / 1024) run
 
 -- the entries of a window of s bytes that shows nothing (01, Paging 1; memory.rs, unmap_prg)
 abbrev pub nothing : (s : ℕ) → List Page

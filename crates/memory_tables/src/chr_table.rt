@@ -1,5 +1,4 @@
-// The picture side's table of 16 entries: the entry of an address. The Rust's `map_chr` is called for windows of one page
-// only, and those are made entry by entry, where `first_page` needs no remainder.
+// The picture side's table of 16 entries: the entry of an address.
 use memory_pages::Page;
 ghost use mathlib.Core.Path.{_≡_};
 ghost use Rattle.memory_tables.specs.Paging.{entryFor, picture};

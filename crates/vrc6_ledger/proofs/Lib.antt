@@ -9,5 +9,6 @@ pub mod Refusals
 pub mod Bytes
 pub mod OpenBus
 pub mod Tabled
+pub mod Nametabled
 pub mod Answered
 pub mod Rows

@@ -12,7 +12,8 @@ use Rattle.memory_tables.specs.Paging.{Side, cpu, picture, entryCount}
 use Rattle.vrc6_banking.specs.declared.banking.Settings.{Settings}
 use Rattle.vrc6_banking.specs.Laws.{WellFormed}
 use Rattle.vrc6_slots.proofs.Counts.{mirroring-count, numbers-count}
-use Rattle.vrc6_tables.proofs.Counts.{count-law, repeat-law}
+use Rattle.vrc6_tables.specs.Laws.{Sized}
+use Rattle.vrc6_tables.proofs.Counts.{count-law, nametable-law}
 use Rattle.vrc6_tables.proofs.Entries.{entries-law}
 use Rattle.irq.specs.declared.VrcIrq.{VrcIrq}
 use Rattle.audio.specs.declared.Audio.{Audio}
@@ -42,8 +43,15 @@ well-formed o g eight =
 tables : (c : Creation) (ok : Accepted c) (o : Settings) (g : Registers) (t : Timing) (r : VrcIrq) (a : Audio) → WellFormed (bankingBy o g)
     → Tables (boardOf c o g t r a)
 tables c ok o g t r a w =
-    record { counts = counts; in-range = in-range; repeats = repeat-law (c .layout) (bankingBy o g) w }
+    record {
+      counts = counts;
+      in-range = in-range;
+      repeats = λ n h. nametable-law .at-3000 (c .layout) (bankingBy o g) sized n h ∙ sym (nametable-law .at-2000 (c .layout) (bankingBy o g) sized n h);
+    }
   where
+    sized : Sized (bankingBy o g)
+    sized = record { chrs = w .chrs; names = w .names }
+
     counts : (s : Side) → length (table s (boardOf c o g t r a)) ≡ entryCount s
     counts cpu = count-law cpu (c .layout) (bankingBy o g) w
     counts picture = count-law picture (c .layout) (bankingBy o g) w

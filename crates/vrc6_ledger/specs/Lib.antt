@@ -6,6 +6,7 @@ pub mod Foreseen
 pub mod Refused
 pub mod Played
 pub mod Laws
+pub mod Rebuilt
 pub mod OpenBus
 pub mod Answers
 pub mod Positions

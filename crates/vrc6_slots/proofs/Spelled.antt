@@ -6,8 +6,8 @@ use native.Mathlib.Omega.{arith}
 use lib.ListN.{length, getD}
 use Rattle.base_shared.specs.Lists.{tabulate}
 
-pub spelled : (n : ℕ) (l : List ℕ) → length l ≡ n → tabulate n (λ i. getD l i 0) ≡ l
-spelled zero [] h = refl
-spelled zero (x ∷ l) h = absurd (omega arith)
-spelled (suc n) [] h = absurd (omega arith)
-spelled (suc n) (x ∷ l) h = ap (λ (r : List ℕ). x ∷ r) (spelled n l (omega arith))
+pub spelled : {A : Type 0} (d : A) (n : ℕ) (l : List A) → length l ≡ n → tabulate n (λ i. getD l i d) ≡ l
+spelled d zero [] h = refl
+spelled d zero (x ∷ l) h = absurd (omega arith)
+spelled d (suc n) [] h = absurd (omega arith)
+spelled d (suc n) (x ∷ l) h = ap (λ (r : List _). x ∷ r) (spelled d n l (omega arith))

@@ -1,8 +1,8 @@
--- How many entries each table has, and that $3000 repeats $2000. Assumes nothing.
+-- How many entries each table has, and which of them are the nametables. Assumes nothing.
 use mathlib.Core.Path.{_≡_, refl, sym, ap, _∙_}
 use mathlib.Core.Bool.{Bool, true, false, cond}
-use mathlib.Core.List.{List, _++_, map}
-use Prim.Native.Nat.{ℕ, _+_, _<_}
+use mathlib.Core.List.{List, [], _∷_, _++_, map}
+use Prim.Native.Nat.{ℕ, zero, suc, _+_, _<_}
 use native.Mathlib.Omega.{arith}
 use lib.IntN.{pos, negsuc}
 use lib.ListN.{length, getD, length-append, length-map, List·getD-append}
@@ -16,13 +16,18 @@ use Rattle.memory_layout.specs.Layout.{region}
 use Rattle.memory_tables.specs.Paging.{cpu, picture, nothing, window}
 use Rattle.vrc6_banking.specs.declared.banking.Banking.{Banking}
 use Rattle.vrc6_slots.specs.Chr.{chrSlots}
-use Rattle.vrc6_banking.specs.Laws.{WellFormed}
 use Rattle.vrc6_slots.proofs.Counts.{slots-count}
 use Rattle.vrc6_tables.specs.Tables.{cpuEntries, nametableEntries, nametableSource, onePage, pictureEntries}
-use Rattle.vrc6_tables.specs.Laws.{CountLaw, RepeatLaw}
+use Rattle.vrc6_tables.specs.Laws.{CountLaw, NametableLaw, Sized, nametableEntry}
+
+-- an element of a list that is there, mapped
+nth-mapped : (f : ℕ → Page) (vs : List ℕ) (n : ℕ) → n < length vs → getD (map f vs) n unmapped ≡ f (getD vs n 0)
+nth-mapped f [] n h = absurd (omega arith)
+nth-mapped f (v ∷ vs) zero h = refl
+nth-mapped f (v ∷ vs) (suc n) h = nth-mapped f vs n (omega arith)
 
 -- the picture side's table in its parts
-module _ (l : MemoryLayout) (b : Banking) (w : WellFormed b) where
+module _ (l : MemoryLayout) (b : Banking) (w : Sized b) where
   abbrev slots : List Page
   slots = map (onePage (region l Chr)) (chrSlots (b .«banking_mode») (b .chr))
 
@@ -42,14 +47,22 @@ module _ (l : MemoryLayout) (b : Banking) (w : WellFormed b) where
   unfolding pictureEntries
   sixteen = omega (arith, length-append (slots ++ names) names, twelve, four)
 
-  again : (n : ℕ) → n < 4 → getD (pictureEntries l b) (12 + n) unmapped ≡ getD (pictureEntries l b) (8 + n) unmapped
+  -- nametable n, by its number
+  nth-name : (n : ℕ) → n < 4 → getD names n unmapped ≡ nametableEntry l b n
+  nth-name n h = nth-mapped (onePage (region l (nametableSource (b .«banking_mode»)))) (b .«nt_banks») n (omega (arith, w .names))
+
+  low : (n : ℕ) → n < 4 → getD (pictureEntries l b) (8 + n) unmapped ≡ nametableEntry l b n
   unfolding pictureEntries
-  again n h =
-      let far : getD (slots ++ names ++ names) (12 + n) unmapped ≡ getD names n unmapped
-      = ap (λ (k : ℕ). getD (slots ++ names ++ names) (k + n) unmapped) (sym twelve) ∙ getD-append-add (slots ++ names) names n unmapped in
-      let near : getD (slots ++ names) (8 + n) unmapped ≡ getD names n unmapped
-      = ap (λ (k : ℕ). getD (slots ++ names) (k + n) unmapped) (sym eight) ∙ getD-append-add slots names n unmapped in
-      far ∙ sym (List·getD-append (slots ++ names) names unmapped (8 + n) (omega (arith, twelve)) ∙ near)
+  low n h =
+      List·getD-append (slots ++ names) names unmapped (8 + n) (omega (arith, twelve))
+      ∙ ap (λ (k : ℕ). getD (slots ++ names) (k + n) unmapped) (sym eight)
+      ∙ getD-append-add slots names n unmapped ∙ nth-name n h
+
+  high : (n : ℕ) → n < 4 → getD (pictureEntries l b) (12 + n) unmapped ≡ nametableEntry l b n
+  unfolding pictureEntries
+  high n h =
+      ap (λ (k : ℕ). getD (slots ++ names ++ names) (k + n) unmapped) (sym twelve) ∙ getD-append-add (slots ++ names) names n unmapped
+      ∙ nth-name n h
 
 -- the CPU's table, with PRG RAM at $6000 and without
 cpu-count : (l : MemoryLayout) (b : Banking) → length (cpuEntries l b) ≡ 64
@@ -68,7 +81,7 @@ cpu-count l b = go (bit 7 (b .«banking_mode»))
 
 pub count-law : CountLaw
 count-law cpu l b w = cpu-count l b
-count-law picture l b w = sixteen l b w
+count-law picture l b w = sixteen l b (record { chrs = w .chrs; names = w .names })
 
-pub repeat-law : RepeatLaw
-repeat-law l b w n h = again l b w n h
+pub nametable-law : NametableLaw
+nametable-law = record { at-2000 = low; at-3000 = high }

@@ -23,9 +23,10 @@ use Rattle.memory_rule.specs.Rule.{base, shown}
 use Rattle.memory_rule.proofs.Banks.{wrapped-low}
 use Rattle.memory_rule.proofs.Shown.{ends}
 use Rattle.memory_tables.specs.Paging.{nothing, window}
-use Rattle.vrc6_tables.specs.Required.{Below, ramEntries}
+use Rattle.vrc6_tables.specs.Required.{ramEntries}
 use Rattle.vrc6_tables.specs.Tables.{cpuEntries}
 use Rattle.vrc6_tables.specs.Laws.{NothingAtLaw}
+use Rattle.vrc6_tables.proofs.Regions.{Below}
 
 -- ---- one entry
 -- an entry of another offset than 0 is not the unmapped one

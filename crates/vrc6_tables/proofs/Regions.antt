@@ -1,23 +1,38 @@
--- A window on a region of a layout within its limits meets what the paging functions require. Assumes nothing.
-use mathlib.Core.Path.{_≡_}
+-- A window on a region of a layout within its limits meets what the paging functions require, and a window of one page is the ring's. Assumes nothing.
+use mathlib.Core.Path.{_≡_, refl, sym, ap, _∙_}
 use mathlib.Core.Bool.{true}
-use Prim.Native.Nat.{ℕ, _+_, _*_, _≤_}
+use mathlib.Core.List.{List, [], _∷_, map}
+use Prim.Native.Nat.{ℕ, _+_, _*_, _%_, _^_, _≤_, _<_}
+use Rattle.memory_pages.specs.declared.page.Page.{Page}
 use Rattle.memory_layout.specs.declared.regions.MemoryLayout.{MemoryLayout}
 use Rattle.memory_layout.specs.declared.regions.Region.{Region}
 use Rattle.memory_layout.specs.declared.regions.Src.{Src}
 use Rattle.memory_layout.specs.Layout.{region}
 use Rattle.memory_layout.specs.Required.{Limits}
-use Rattle.memory_rule.specs.Required.{Held, held}
-use Rattle.memory_tables.specs.Required.{Inside, Window}
-use Rattle.memory_rule.proofs.Shown.{ends}
-use Rattle.vrc6_tables.specs.Required.{Below}
+use Rattle.memory_rule.specs.declared.rings.PageRing.{PageRing}
+use Rattle.memory_rule.specs.Required.{Held, Turning, Whole, held, ringOf, ringPage}
+use Rattle.memory_rule.proofs.Shown.{whole-region}
+use Rattle.memory_rule.proofs.Turned.{one-shown}
+use Rattle.vrc6_tables.specs.Tables.{onePage}
+
+-- the region ends below 2 ^ 29
+abbrev pub Below : Region → Type 0
+Below r = r .start + r .len ≤ 2 ^ 29
 
 module _ (l : MemoryLayout) (h : Limits l) (src : Src) (r : Region) (e : r ≡ region l src) where
-  pub below : Below r
-  below = rw e (ends l h src)
-
-  pub windowed : (address s count : ℕ) → Inside address s count → Window r address s count
-  windowed address s count i = record { below = below; window = i }
+  pub whole : Whole r
+  whole = rw e (whole-region l h src)
 
   pub held-by : (s k : ℕ) → s ≤ 16_384 → 8_192 * k + 8_192 ≤ s → held r s ≡ true → Held r s k
-  held-by s k m i w = record { below = below; most = m; whole = w; inside = i }
+  held-by s k m i w = record { below = whole .below; most = m; whole = w; inside = i }
+
+  pub turning : (s k : ℕ) → 1 ≤ s → s ≤ 16_384 → s % 1024 ≡ 0 → k < 2 → Turning r s k
+  turning s k o m p n = record { whole = whole; some = o; most = m; paged = p; page = n }
+
+-- ---- windows of one page
+each-same : (f g : ℕ → Page) → ((v : ℕ) → f v ≡ g v) → (vs : List ℕ) → map f vs ≡ map g vs
+each-same f g e [] = refl
+each-same f g e (v ∷ vs) = λ i. e v i ∷ each-same f g e vs i
+
+pub ringed : (r : Region) → Whole r → (g : PageRing) → g ≡ ringOf r → (vs : List ℕ) → map (ringPage g) vs ≡ map (onePage r) vs
+ringed r w g e vs = ap (λ (o : PageRing). map (ringPage o) vs) e ∙ each-same (ringPage (ringOf r)) (onePage r) (λ v. sym (one-shown r w v)) vs

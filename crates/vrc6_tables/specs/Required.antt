@@ -1,15 +1,10 @@
 -- What the functions of this crate require of their arguments, and what inner ones return. Assumes nothing.
 use mathlib.Core.Bool.{Bool, cond}
 use mathlib.Core.List.{List}
-use Prim.Native.Nat.{_+_, _^_, _≤_}
 use lib.IntN.{pos}
 use Rattle.memory_pages.specs.declared.page.Page.{Page}
 use Rattle.memory_layout.specs.declared.regions.Region.{Region}
 use Rattle.memory_tables.specs.Paging.{nothing, window}
-
--- the region ends below 2 ^ 29
-abbrev pub Below : Region → Type 0
-Below r = r .start + r .len ≤ 2 ^ 29
 
 -- what $6000 shows: PRG RAM if it is on, else nothing
 abbrev pub ramEntries : (ram : Region) → (on : Bool) → List Page

@@ -12,13 +12,14 @@ use memory_layout::MemoryLayout;
 use memory_layout::Region;
 use memory_layout::Src;
 use memory_pages::Page;
-use memory_rule::first_page;
+use memory_rule::rings::PageRing;
+use memory_rule::rings::RingRun;
+use memory_rule::rings::ring_table;
+use memory_rule::rings::window_ring;
 use memory_rule::runs::EntryRun;
 use memory_rule::runs::holds;
 use memory_rule::runs::run_table;
 use memory_rule::runs::window_run;
-use memory_tables::prg_table::map_prg;
-use memory_tables::prg_table::unmap_prg;
 use vrc6_banking::banking::Banking;
 use vrc6_slots::mode::chr_rom_nametables;
 use vrc6_slots::mode::prg_ram_enabled;
@@ -27,9 +28,10 @@ ghost use mathlib.Core.List.{_++_, map};
 ghost use Rattle.base_shared.specs.Bits.{bit};
 ghost use Rattle.memory_layout.specs.Required.{Limits};
 ghost use Rattle.memory_layout.specs.Layout.{region};
-ghost use Rattle.memory_rule.specs.Required.{Held, Small, runEntries};
-ghost use Rattle.vrc6_tables.specs.Required.{Below, ramEntries};
-ghost use Rattle.vrc6_tables.specs.Tables.{cpuEntries, nametableSource, onePage, pictureEntries};
+ghost use Rattle.memory_rule.specs.Required.{Begun, Held, Round, Small, Turning, ringEntries, ringOf, ringPage, runEntries};
+ghost use Rattle.vrc6_slots.specs.Chr.{chrSlots};
+ghost use Rattle.vrc6_tables.specs.Required.{ramEntries};
+ghost use Rattle.vrc6_tables.specs.Tables.{cpuEntries, nametableSource, pictureEntries};
 
 // The CPU's entries.
 pub fn prg_pages(layout: MemoryLayout, banking: Banking) -> [Page; 64]
@@ -52,7 +54,7 @@ pub fn prg_pages(layout: MemoryLayout, banking: Banking) -> [Page; 64]
             window_run(rom, 8192, -1, 0), // $E000
         ]);
     }
-    prg_windows(layout, banking)
+    prg_rings(layout, banking)
 }
 
 // What $6000 shows.
@@ -66,69 +68,120 @@ fn ram_run(ram: Region, mode: u8) -> EntryRun
     EntryRun::UNMAPPED
 }
 
-// The same entries window by window, for a region shorter than its window.
-fn prg_windows(layout: MemoryLayout, banking: Banking) -> [Page; 64]
+// The same entries where a region is shorter than its window, which goes round it.
+fn prg_rings(layout: MemoryLayout, banking: Banking) -> [Page; 64]
     requires { ⌜ Limits layout ⌝ }
     ensures { λ r. ⌜ r ≡ cpuEntries layout banking ⌝ }
 {
     let rom = layout.region(Src::PrgRom);
     let ram = layout.region(Src::PrgRam);
     let banks = banking.prg_banks;
-    let pages = [Page::UNMAPPED; 64];
-    let pages = map_prg(pages, 0x8000, 16384, banks[0] as i32, rom);
-    let pages = map_prg(pages, 0xC000, 8192, banks[1] as i32, rom);
-    let pages = map_prg(pages, 0xE000, 8192, -1, rom);
-    if prg_ram_enabled(banking.banking_mode) {
-        return map_prg(pages, 0x6000, 8192, 0, ram);
+    ring_table([
+        RingRun::UNMAPPED, // $0000
+        RingRun::UNMAPPED, // $2000
+        RingRun::UNMAPPED, // $4000
+        ram_ring(ram, banking.banking_mode), // $6000
+        window_ring(rom, 16384, banks[0] as i32, 0), // $8000
+        window_ring(rom, 16384, banks[0] as i32, 1), // $A000
+        window_ring(rom, 8192, banks[1] as i32, 0), // $C000
+        window_ring(rom, 8192, -1, 0), // $E000
+    ])
+}
+
+// What $6000 then shows.
+fn ram_ring(ram: Region, mode: u8) -> RingRun
+    requires { ⌜ Turning ram 8192 0 ⌝ }
+    ensures { λ r. ⌜ (ringEntries r ≡ ramEntries ram (bit 7 mode)) × Begun r ⌝ }
+{
+    if prg_ram_enabled(mode) {
+        return window_ring(ram, 8192, 0, 0);
     }
-    unmap_prg(pages, 0x6000, 8192)
+    RingRun::UNMAPPED
 }
 
 // A window of one page.
-fn one_page(region: Region, bank: u8) -> Page
-    requires { ⌜ Below region ⌝ }
-    ensures { λ r. ⌜ r ≡ onePage region bank ⌝ }
+fn one_page(ring: PageRing, bank: u8) -> Page
+    requires { ⌜ Round ring ⌝ }
+    ensures { λ r. ⌜ r ≡ ringPage ring bank ⌝ }
 {
-    first_page(region, 1024, bank as i32)
+    ring.page(bank as u32)
+}
+
+// Eight of them.
+fn bank_pages(ring: PageRing, banks: [u8; 8]) -> [Page; 8]
+    requires { ⌜ Round ring ⌝ }
+    ensures { λ r. ⌜ r ≡ map (ringPage ring) banks ⌝ }
+{
+    [
+        one_page(ring, banks[0]),
+        one_page(ring, banks[1]),
+        one_page(ring, banks[2]),
+        one_page(ring, banks[3]),
+        one_page(ring, banks[4]),
+        one_page(ring, banks[5]),
+        one_page(ring, banks[6]),
+        one_page(ring, banks[7]),
+    ]
+}
+
+// The slots' entries.
+fn slot_pages(chr: PageRing, banking: Banking) -> [Page; 8]
+    requires { ⌜ Round chr ⌝ }
+    ensures { λ r. ⌜ r ≡ map (ringPage chr) (chrSlots (banking .«banking_mode») (banking .chr)) ⌝ }
+{
+    // The usual mode shows each register in a slot of its own, and then no banks have to be put together.
+    if banking.banking_mode % 4 == 0 {
+        let registers = banking.chr;
+        return bank_pages(chr, registers);
+    }
+    bank_pages(chr, banking.chr_banks())
 }
 
 // The region that the nametables select from.
-fn nametable_region(layout: MemoryLayout, mode: u8) -> Region
+fn nametable_ring(layout: MemoryLayout, mode: u8) -> PageRing
     requires { ⌜ Limits layout ⌝ }
-    ensures { λ r. ⌜ r ≡ region layout (nametableSource mode) ⌝ }
+    ensures { λ r. ⌜ (r ≡ ringOf (region layout (nametableSource mode))) × Round r ⌝ }
 {
     if chr_rom_nametables(mode) {
-        return layout.region(Src::Chr);
+        return PageRing::of(layout.region(Src::Chr));
     }
-    layout.region(Src::CiRam)
+    PageRing::of(layout.region(Src::CiRam))
 }
 
-// Slots from one region, nametables from another.
-fn picture_table(chr: Region, source: Region, slots: [u8; 8], names: [u8; 4]) -> [Page; 16]
-    requires { ⌜ (Below chr) × (Below source) ⌝ }
-    ensures { λ r. ⌜ r ≡ map (onePage chr) slots ++ map (onePage source) names ++ map (onePage source) names ⌝ }
+// The four nametable entries.
+fn nametable_pages(source: PageRing, numbers: [u8; 4]) -> [Page; 4]
+    requires { ⌜ Round source ⌝ }
+    ensures { λ r. ⌜ r ≡ map (ringPage source) numbers ⌝ }
 {
-    let name0 = one_page(source, names[0]);
-    let name1 = one_page(source, names[1]);
-    let name2 = one_page(source, names[2]);
-    let name3 = one_page(source, names[3]);
     [
-        one_page(chr, slots[0]),
-        one_page(chr, slots[1]),
-        one_page(chr, slots[2]),
-        one_page(chr, slots[3]),
-        one_page(chr, slots[4]),
-        one_page(chr, slots[5]),
-        one_page(chr, slots[6]),
-        one_page(chr, slots[7]),
-        name0, // $2000
-        name1, // $2400
-        name2, // $2800
-        name3, // $2C00
-        name0, // $3000
-        name1, // $3400
-        name2, // $3800
-        name3, // $3C00
+        one_page(source, numbers[0]),
+        one_page(source, numbers[1]),
+        one_page(source, numbers[2]),
+        one_page(source, numbers[3]),
+    ]
+}
+
+// Each nametable entry is stored twice.
+fn picture_table(slots: [Page; 8], names: [Page; 4]) -> [Page; 16]
+    ensures { λ r. ⌜ r ≡ slots ++ names ++ names ⌝ }
+{
+    [
+        slots[0],
+        slots[1],
+        slots[2],
+        slots[3],
+        slots[4],
+        slots[5],
+        slots[6],
+        slots[7],
+        names[0], // $2000
+        names[1], // $2400
+        names[2], // $2800
+        names[3], // $2C00
+        names[0], // $3000
+        names[1], // $3400
+        names[2], // $3800
+        names[3], // $3C00
     ]
 }
 
@@ -137,9 +190,8 @@ pub fn chr_pages(layout: MemoryLayout, banking: Banking) -> [Page; 16]
     requires { ⌜ Limits layout ⌝ }
     ensures { λ r. ⌜ r ≡ pictureEntries layout banking ⌝ }
 {
-    let chr = layout.region(Src::Chr);
-    let source = nametable_region(layout, banking.banking_mode);
-    let slots = banking.chr_banks();
-    let names = banking.nt_banks;
-    picture_table(chr, source, slots, names)
+    let chr = PageRing::of(layout.region(Src::Chr));
+    let source = nametable_ring(layout, banking.banking_mode);
+    let numbers = banking.nt_banks;
+    picture_table(slot_pages(chr, banking), nametable_pages(source, numbers))
 }

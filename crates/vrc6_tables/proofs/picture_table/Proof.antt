@@ -1,139 +1,89 @@
 -- `picture_table` meets its contract, entry by entry. Assumes nothing.
 use mathlib.Core.Path.{_≡_}
-use mathlib.Core.List.{_∷_, []}
 use lib.ListN.{length}
 use borrow.Author.Needs.{needs}
+use Rattle.memory_pages.specs.Pages.{unmapped}
 use Rattle.vrc6_slots.proofs.Spelled.{spelled}
 use Rattle.vrc6_tables.proofs.picture_table.Statement.{statement}
 use Rattle.vrc6_tables.proofs.picture_table.Tie as tie
 
-eight : (c : tie.Start) → length (c .args .t3) ≡ 8
+eight : (c : tie.Start) → length (c .args .t1) ≡ 8
 eight c = search needs
 
-four : (c : tie.Start) → length (c .args .t4) ≡ 4
+four : (c : tie.Start) → length (c .args .t2) ≡ 4
 four c = search needs
 
-array-read-one-page : tie.Need-array-read-one-page
-array-read-one-page c = search needs
+array-copy-out-t7 : tie.Need-array-copy-out-t7
+array-copy-out-t7 c = search needs
 
-one-page-requires : tie.Need-one-page-requires
-one-page-requires c κs = search needs
+array-copy-out-t10 : tie.Need-array-copy-out-t10
+array-copy-out-t10 c = search needs
 
-array-read-one-page-2 : tie.Need-array-read-one-page-2
-array-read-one-page-2 c = search needs
+array-copy-out-t13 : tie.Need-array-copy-out-t13
+array-copy-out-t13 c = search needs
 
-one-page-requires-2 : tie.Need-one-page-requires-2
-one-page-requires-2 c κs = search needs
+array-copy-out-t16 : tie.Need-array-copy-out-t16
+array-copy-out-t16 c = search needs
 
-array-read-one-page-3 : tie.Need-array-read-one-page-3
-array-read-one-page-3 c = search needs
+array-copy-out-t19 : tie.Need-array-copy-out-t19
+array-copy-out-t19 c = search needs
 
-one-page-requires-3 : tie.Need-one-page-requires-3
-one-page-requires-3 c κs = search needs
+array-copy-out-t22 : tie.Need-array-copy-out-t22
+array-copy-out-t22 c = search needs
 
-array-read-one-page-4 : tie.Need-array-read-one-page-4
-array-read-one-page-4 c = search needs
+array-copy-out-t25 : tie.Need-array-copy-out-t25
+array-copy-out-t25 c = search needs
 
-one-page-requires-4 : tie.Need-one-page-requires-4
-one-page-requires-4 c κs = search needs
+array-copy-out-t28 : tie.Need-array-copy-out-t28
+array-copy-out-t28 c = search needs
 
-array-read-one-page-5 : tie.Need-array-read-one-page-5
-array-read-one-page-5 c = search needs
+array-copy-out-t31 : tie.Need-array-copy-out-t31
+array-copy-out-t31 c = search needs
 
-one-page-requires-5 : tie.Need-one-page-requires-5
-one-page-requires-5 c κs = search needs
+array-copy-out-t34 : tie.Need-array-copy-out-t34
+array-copy-out-t34 c = search needs
 
-array-read-one-page-6 : tie.Need-array-read-one-page-6
-array-read-one-page-6 c = search needs
+array-copy-out-t37 : tie.Need-array-copy-out-t37
+array-copy-out-t37 c = search needs
 
-one-page-requires-6 : tie.Need-one-page-requires-6
-one-page-requires-6 c κs = search needs
+array-copy-out-t40 : tie.Need-array-copy-out-t40
+array-copy-out-t40 c = search needs
 
-array-read-one-page-7 : tie.Need-array-read-one-page-7
-array-read-one-page-7 c = search needs
+array-copy-out-t43 : tie.Need-array-copy-out-t43
+array-copy-out-t43 c = search needs
 
-one-page-requires-7 : tie.Need-one-page-requires-7
-one-page-requires-7 c κs = search needs
+array-copy-out-t46 : tie.Need-array-copy-out-t46
+array-copy-out-t46 c = search needs
 
-array-read-one-page-8 : tie.Need-array-read-one-page-8
-array-read-one-page-8 c = search needs
+array-copy-out-t49 : tie.Need-array-copy-out-t49
+array-copy-out-t49 c = search needs
 
-one-page-requires-8 : tie.Need-one-page-requires-8
-one-page-requires-8 c κs = search needs
-
-array-read-one-page-9 : tie.Need-array-read-one-page-9
-array-read-one-page-9 c = search needs
-
-one-page-requires-9 : tie.Need-one-page-requires-9
-one-page-requires-9 c κs = search needs
-
-array-read-one-page-10 : tie.Need-array-read-one-page-10
-array-read-one-page-10 c = search needs
-
-one-page-requires-10 : tie.Need-one-page-requires-10
-one-page-requires-10 c κs = search needs
-
-array-read-one-page-11 : tie.Need-array-read-one-page-11
-array-read-one-page-11 c = search needs
-
-one-page-requires-11 : tie.Need-one-page-requires-11
-one-page-requires-11 c κs = search needs
-
-array-read-one-page-12 : tie.Need-array-read-one-page-12
-array-read-one-page-12 c = search needs
-
-one-page-requires-12 : tie.Need-one-page-requires-12
-one-page-requires-12 c κs = search needs
+array-copy-out-t52 : tie.Need-array-copy-out-t52
+array-copy-out-t52 c = search needs
 
 returns : tie.Need-returns
 returns c =
-    let s = c .before .before .before .before .before .before .before .before .before .before .before .before in
-    rw (← spelled 8 (s .args .t3) (eight s), ← spelled 4 (s .args .t4) (four s))
-    (λ i.
-    c .before .before .before .before .before .before .before .one-page5 .ensures i
-    ∷ c .before .before .before .before .before .before .one-page6 .ensures i
-    ∷ c .before .before .before .before .before .one-page7 .ensures i
-    ∷ c .before .before .before .before .one-page8 .ensures i
-    ∷ c .before .before .before .one-page9 .ensures i
-    ∷ c .before .before .one-page10 .ensures i
-    ∷ c .before .one-page11 .ensures i
-    ∷ c .one-page12 .ensures i
-    ∷ c .before .before .before .before .before .before .before .before .before .before .before .one-page .ensures i
-    ∷ c .before .before .before .before .before .before .before .before .before .before .one-page2 .ensures i
-    ∷ c .before .before .before .before .before .before .before .before .before .one-page3 .ensures i
-    ∷ c .before .before .before .before .before .before .before .before .one-page4 .ensures i
-    ∷ c .before .before .before .before .before .before .before .before .before .before .before .one-page .ensures i
-    ∷ c .before .before .before .before .before .before .before .before .before .before .one-page2 .ensures i
-    ∷ c .before .before .before .before .before .before .before .before .before .one-page3 .ensures i
-    ∷ c .before .before .before .before .before .before .before .before .one-page4 .ensures i
-    ∷ [])
+    let s = c .before .before .before .before .before .before .before .before .before .before .before .before .before .before .before .before in
+    rw (← spelled unmapped 8 (s .args .t1) (eight s), ← spelled unmapped 4 (s .args .t2) (four s))
 
 pub picture-table-spec : {M : Type 1} → statement M
 picture-table-spec =
     tie.close
     (tie.spec
-    array-read-one-page
-    one-page-requires
-    array-read-one-page-2
-    one-page-requires-2
-    array-read-one-page-3
-    one-page-requires-3
-    array-read-one-page-4
-    one-page-requires-4
-    array-read-one-page-5
-    one-page-requires-5
-    array-read-one-page-6
-    one-page-requires-6
-    array-read-one-page-7
-    one-page-requires-7
-    array-read-one-page-8
-    one-page-requires-8
-    array-read-one-page-9
-    one-page-requires-9
-    array-read-one-page-10
-    one-page-requires-10
-    array-read-one-page-11
-    one-page-requires-11
-    array-read-one-page-12
-    one-page-requires-12
+    array-copy-out-t7
+    array-copy-out-t10
+    array-copy-out-t13
+    array-copy-out-t16
+    array-copy-out-t19
+    array-copy-out-t22
+    array-copy-out-t25
+    array-copy-out-t28
+    array-copy-out-t31
+    array-copy-out-t34
+    array-copy-out-t37
+    array-copy-out-t40
+    array-copy-out-t43
+    array-copy-out-t46
+    array-copy-out-t49
+    array-copy-out-t52
     returns)

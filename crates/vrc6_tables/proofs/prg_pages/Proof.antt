@@ -1,5 +1,6 @@
 -- `prg_pages` meets its contract: where no window wraps the runs joined are the table. Assumes nothing.
-use mathlib.Core.Path.{sym, _∙_}
+use mathlib.Core.Path.{refl, sym, _∙_}
+use mathlib.Core.List.{[], _∷_}
 use Prim.Native.Nat.{ℕ, _+_, _*_, _≤_}
 use native.Mathlib.Omega.{arith}
 use lib.Dec.{leb}
@@ -11,8 +12,8 @@ use mir.Val.{SFits}
 use mir.Facts.{toZ-ofZ}
 use Rattle.base_shared.proofs.Tests.{and-left, and-right}
 use Rattle.memory_layout.specs.declared.regions.Src.the-variants.{PrgRom, PrgRam}
-use Rattle.memory_rule.specs.Required.{Held}
-use Rattle.memory_rule.proofs.Filling.{small-none, small-more}
+use Rattle.memory_rule.specs.Required.{Held, unmappedRun}
+use Rattle.memory_rule.proofs.Filling.{rows, small-none, small-more}
 use Rattle.memory_rule.proofs.Unwrapped.{long-held}
 use Rattle.vrc6_tables.proofs.Numbers.{signed}
 use Rattle.vrc6_tables.proofs.Regions.{held-by}
@@ -100,7 +101,11 @@ returns : tie.Need-returns
 returns c =
     let d = c .before .before .before .before .before .before in
     let start = d .before .before .before .before .before .before in
-    joined (start .args .layout) (start .args .banking) _ _ _ _ _ (c .run-table .ensures)
+    let runs =
+    unmappedRun ∷ unmappedRun ∷ unmappedRun ∷ c .before .before .before .before .before .ram-run .result
+    ∷ c .before .before .before .before .window-run .result ∷ c .before .before .before .window-run2 .result
+    ∷ c .before .before .window-run3 .result ∷ c .before .window-run4 .result ∷ [] in
+    joined (start .args .layout) (start .args .banking) (rows runs) (c .run-table .ensures) refl
     (c .before .before .before .before .before .ram-run .ensures .0)
     (c .before .before .before .before .window-run .ensures .0)
     (c .before .before .before .window-run2 .ensures .0)
@@ -111,8 +116,8 @@ returns c =
     (toZ-ofZ (number d 0))
     (toZ-ofZ (number d 1))
 
-prg-windows-requires : tie.Need-prg-windows-requires
-prg-windows-requires c κs = search needs
+prg-rings-requires : tie.Need-prg-rings-requires
+prg-rings-requires c κs = search needs
 
 returns-2 : tie.Need-returns-2
 returns-2 c = search needs
@@ -137,5 +142,5 @@ prg-pages-spec =
     window-run-requires-4
     run-table-requires
     returns
-    prg-windows-requires
+    prg-rings-requires
     returns-2)

@@ -2,7 +2,7 @@
 //! black_box as it comes.
 use crate::{
     checked::{Byte, Checked, Level, Tick},
-    lent::{Board, Lent},
+    lent::{Archive, Board, Lent},
 };
 use std::{arch::naked_asm, hint::black_box};
 use tetanes_shim::{mapper::Map, rig::Rig};
@@ -95,11 +95,11 @@ pub trait Form {
 
 macro_rules! form {
     (
-        $host:ty, |$h:ident, $a:ident, $v:ident|
+        $host:ty $(, for $archive:ident)?, |$h:ident, $a:ident, $v:ident|
         $clock:expr, $level:expr, $cpu:expr, $bus:expr, $picture:expr, $write:expr
     ) => {
         #[allow(unused_variables)]
-        impl Form for $host {
+        impl$(<$archive: Archive>)? Form for $host {
             #[inline(always)]
             fn call_clock(&mut self) {
                 let $h = self;
@@ -177,7 +177,7 @@ form!(
     checked_cpu_write(h, a, v)
 );
 form!(
-    Lent, |h, a, v|
+    Lent<A>, for A, |h, a, v|
     h.clock(),
     h.level(),
     h.cpu_read(a, v),

@@ -1,28 +1,32 @@
-//! bench                    the proved board's lent calls beside the original: instructions and ns per call, one table
+//! bench                    the proved board's lent calls beside the original: instructions and ns per call, one table; a frame of
+//!                          calls; and, built with the feature before, each row beside the same call of another archive
 //! bench count ROW FORM N   one loop of N calls and nothing printed, which the first runs under callgrind
 mod checked;
 mod forms;
 mod lent;
 mod rows;
 
-use lent::Lent;
-use rows::{CHECKED, EMPTY, EMPTY_LENT, Hosts, LENT, NO_CALL, ROWS, RUST, Row, S};
+use lent::{Lent, Now};
+use rows::{BEFORE, CHECKED, EMPTY, EMPTY_LENT, FORMS, FRAME, Hosts, LENT, NO_CALL, ROWS, RUST, Row, S};
 use std::{process::Command, time::Instant};
 
 const CALLS: u32 = 3_000_000;
+const COUNTED: u32 = 10_000;
+const FRAMES: u32 = 100;
+const FRAMES_COUNTED: u32 = 10;
 const RUNS: usize = 9;
 const AGREED: u32 = 200_000;
 
 /// Least and median of the runs in ns per call, the loop's included, for each form. The forms take turns run by run, so
 /// that a drift of the machine meets all of them.
-fn times(row: &Row) -> [(f64, f64); 6] {
+fn times(row: &Row, calls: u32) -> [(f64, f64); FORMS] {
     let mut h = Hosts::of(row);
-    let mut t = [const { Vec::new() }; 6];
+    let mut t = [const { Vec::new() }; FORMS];
     for _ in 0..RUNS {
         for (run, t) in row.runs.iter().zip(&mut t) {
             let began = Instant::now();
-            run(&mut h, CALLS);
-            t.push(began.elapsed().as_nanos() as f64 / f64::from(CALLS));
+            run(&mut h, calls);
+            t.push(began.elapsed().as_nanos() as f64 / f64::from(calls));
         }
     }
     t.map(|mut t| {
@@ -46,9 +50,14 @@ fn collected(row: usize, form: usize, n: u32) -> f64 {
     count.trim().parse().expect("a number")
 }
 
-/// Instructions per call, the loop's included: a ten-thousandth of what 10,000 further calls take.
-fn instructions(row: usize, form: usize) -> f64 {
-    (collected(row, form, 20_000) - collected(row, form, 10_000)) / 10_000.0
+/// Instructions per call, the loop's included: what n further calls take, divided by n.
+fn instructions(row: usize, form: usize, n: u32) -> f64 {
+    (collected(row, form, 2 * n) - collected(row, form, n)) / f64::from(n)
+}
+
+/// The row that `count` names: those of the table, then the frame.
+fn row(i: usize) -> &'static Row {
+    ROWS.get(i).unwrap_or(&FRAME)
 }
 
 /// A loop by itself, and with an empty call in it: instructions, and least ns.
@@ -64,31 +73,83 @@ fn five(of: [f64; 3], d: usize) -> String {
     format!("{rust:>8.d$}{checked:>9.d$}{lent:>8.d$}{:>7.2}{:>9.2}", lent / rust, lent / checked)
 }
 
+/// A row's figures, for the original, the original with the checks, the proved board, and the archive before.
+struct Figures {
+    name: &'static str,
+    instructions: [f64; 4],
+    least: [f64; 4],
+    median: [f64; 4],
+}
+
+const PRINTED: [usize; 4] = [RUST, CHECKED, LENT, BEFORE];
+
+impl Figures {
+    /// Without what the loop by itself takes in instructions.
+    fn of(i: usize, t: [(f64, f64); FORMS], alone: f64, counted: u32) -> Self {
+        // An archive that was not given costs no time.
+        let counts = PRINTED.map(|f| if f == BEFORE && !cfg!(feature = "before") { 0.0 } else { instructions(i, f, counted) - alone });
+        Figures { name: row(i).name, instructions: counts, least: PRINTED.map(|f| t[f].0), median: PRINTED.map(|f| t[f].1) }
+    }
+    fn three(of: [f64; 4]) -> [f64; 3] {
+        [of[0], of[1], of[2]]
+    }
+}
+
 fn table() {
     rows::agree(AGREED);
-    println!("the three forms agree on {AGREED} calls; a board takes {} bytes\n", Lent::board_bytes(S));
+    println!("all forms agree on {AGREED} calls; a board takes {} bytes\n", Lent::<Now>::board_bytes(S));
     println!("{:34}{:>41}  {:>41}", "", "instructions per call, without the loop", "ns per call with the loop, least of 9");
     let head = format!("{:>8}{:>9}{:>8}{:>7}{:>9}", "Rust", "checked", "Rattle", "/Rust", "/checked");
     println!("{:34}{head}  {head}", "");
     let mut shapes: Vec<Shape> = vec![];
-    let mut medians = vec![];
+    let mut all = vec![];
     for (i, row) in ROWS.iter().enumerate() {
-        let t = times(row);
+        let t = times(row, CALLS);
         if !shapes.iter().any(|s| s.name == row.shape) {
             let of = [NO_CALL, EMPTY, EMPTY_LENT];
-            shapes.push(Shape { name: row.shape, instructions: of.map(|f| instructions(i, f)), ns: of.map(|f| t[f].0) });
+            shapes.push(Shape {
+                name: row.shape,
+                instructions: of.map(|f| instructions(i, f, COUNTED)),
+                ns: of.map(|f| t[f].0),
+            });
         }
         let alone = shapes.iter().find(|s| s.name == row.shape).expect("measured above").instructions[0];
-        let of = [RUST, CHECKED, LENT];
-        let counts = of.map(|f| instructions(i, f) - alone);
-        println!("{:34}{}  {}", row.name, five(counts, 1), five(of.map(|f| t[f].0), 2));
-        medians.push((row.name, of.map(|f| t[f].1)));
+        let f = Figures::of(i, t, alone, COUNTED);
+        println!("{:34}{}  {}", f.name, five(Figures::three(f.instructions), 1), five(Figures::three(f.least), 2));
+        all.push(f);
     }
     println!("\n{:34}{}  {:>41}", "", " ".repeat(41), "ns per call with the loop, median of 9");
-    for (name, m) in medians {
-        println!("{name:34}{:41}  {}", "", five(m, 2));
+    for f in &all {
+        println!("{:34}{:41}  {}", f.name, "", five(Figures::three(f.median), 2));
     }
     empty_calls(&shapes);
+    let f = frame();
+    if cfg!(feature = "before") {
+        before(&all, &f);
+    }
+}
+
+/// What a frame costs that writes $D000 on each of its 240 lines, with 113 clocks behind each write.
+fn frame() -> Figures {
+    let i = ROWS.len();
+    let t = times(&FRAME, FRAMES);
+    let f = Figures::of(i, t, instructions(i, NO_CALL, FRAMES_COUNTED), FRAMES_COUNTED);
+    println!("\n{:34}{:>12}{:>12}{:>12}{:>8}{:>10}", f.name, "Rust", "checked", "Rattle", "/Rust", "/checked");
+    for (what, of, d) in [("instructions", f.instructions, 0), ("us, least of 9", f.least.map(|n| n / 1000.0), 1)] {
+        let [rust, checked, lent, _] = of;
+        println!("  {what:32}{rust:>12.d$}{checked:>12.d$}{lent:>12.d$}{:>8.2}{:>10.2}", lent / rust, lent / checked);
+    }
+    f
+}
+
+/// Each row beside the same call of the archive before.
+fn before(all: &[Figures], frame: &Figures) {
+    println!("\n{:34}{:>32}{:>34}", "the archive before, and this one", "instructions", "ns, least of 9");
+    println!("{:34}{:>12}{:>12}{:>8}{:>14}{:>12}{:>8}", "", "before", "now", "/before", "before", "now", "/before");
+    for f in all.iter().chain([frame]) {
+        let ([_, _, lent, was], [_, _, ns, ns_was]) = (f.instructions, f.least);
+        println!("{:34}{was:>12.1}{lent:>12.1}{:>8.2}{ns_was:>14.2}{ns:>12.2}{:>8.2}", f.name, lent / was, ns / ns_was);
+    }
 }
 
 fn empty_calls(shapes: &[Shape]) {
@@ -105,7 +166,7 @@ fn main() {
     let w: Vec<String> = std::env::args().skip(1).collect();
     let n = |i: usize| w[i].parse::<usize>().expect("a number");
     if w.first().is_some_and(|w| w == "count") {
-        let row = &ROWS[n(1)];
+        let row = row(n(1));
         row.runs[n(2)](&mut Hosts::of(row), n(3) as u32);
     } else {
         table();

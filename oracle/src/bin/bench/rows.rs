@@ -2,7 +2,7 @@
 use crate::{
     checked::Checked,
     forms::{Empty, EmptyLent, Form, NoCall},
-    lent::Lent,
+    lent::{Before, Lent},
 };
 use std::hint::black_box;
 use tetanes_shim::{
@@ -11,6 +11,9 @@ use tetanes_shim::{
 };
 
 pub const S: Setup = Setup { seed: 1, ..LAYOUT_S };
+/// Every region of the CPU's is shorter than a window on it, so that windows wrap, and the picture side's have so few banks that
+/// most numbers of a bank wrap.
+pub const SHORT: Setup = Setup { prg: 7 * 1024, chr: 5 * 1024, ram: 3 * 1024, ciram: 1024, ..S };
 
 /// Two boards for each form; all rows but one use the first alone.
 pub struct Hosts {
@@ -20,6 +23,7 @@ pub struct Hosts {
     rig: [Rig; 2],
     checked: [Checked; 2],
     lent: [Lent; 2],
+    before: [Lent<Before>; 2],
 }
 
 pub const NO_CALL: usize = 0;
@@ -28,18 +32,21 @@ pub const EMPTY_LENT: usize = 2;
 pub const RUST: usize = 3;
 pub const CHECKED: usize = 4;
 pub const LENT: usize = 5;
+pub const BEFORE: usize = 6;
+pub const FORMS: usize = 7;
 
 type Run = fn(&mut Hosts, u32);
 pub struct Row {
     pub name: &'static str,
     /// Rows with the same loop have the same shape.
     pub shape: &'static str,
+    layout: Setup,
     /// Whether the boards are made with open bus.
     open_bus: bool,
     setup: fn() -> Vec<(u16, u8)>,
     clocks: u32,
     /// The loop over each form.
-    pub runs: [Run; 6],
+    pub runs: [Run; FORMS],
 }
 
 // The loops. All arguments go through black_box, the board's pointer too. A bus byte is the low byte of such an address,
@@ -99,6 +106,18 @@ fn register_write<const A: u16, F: Form>(f: &mut [F; 2], n: u32) {
         black_box(&mut f[0]).call_cpu_write(black_box(A), black_box(k as u8));
     }
 }
+/// A game that changes CHR on every line: frames of 240 lines, each a write to $D000 and 113 clocks.
+#[inline(never)]
+fn frame<F: Form>(f: &mut [F; 2], n: u32) {
+    for k in 0..n {
+        for line in 0..240 {
+            black_box(&mut f[0]).call_cpu_write(black_box(0xD000), black_box((k + line) as u8));
+            for _ in 0..113 {
+                black_box(&mut f[0]).call_clock();
+            }
+        }
+    }
+}
 
 // What is written before the loop.
 fn nothing() -> Vec<(u16, u8)> {
@@ -136,6 +155,7 @@ macro_rules! row {
         Row {
             name: $name,
             shape: $shape,
+            layout: S,
             open_bus: false,
             setup: $setup,
             clocks: $clocks,
@@ -146,6 +166,7 @@ macro_rules! row {
                 |h, n| $run(&mut h.rig, n),
                 |h, n| $run(&mut h.checked, n),
                 |h, n| $run(&mut h.lent, n),
+                |h, n| $run(&mut h.before, n),
             ],
         }
     };
@@ -167,24 +188,30 @@ pub const ROWS: &[Row] = &[
     row!("CPU write to $B003", "CPU write to a register", ram, 0, register_write::<0xB003, _>),
     row!("CPU write to $D000", "CPU write to a register", ram, 0, register_write::<0xD000, _>),
     row!("CPU write to $8000", "CPU write to a register", ram, 0, register_write::<0x8000, _>),
+    Row { layout: SHORT, ..row!("short regions, $B003", "CPU write to a register", ram, 0, register_write::<0xB003, _>) },
+    Row { layout: SHORT, ..row!("short regions, $D000", "CPU write to a register", ram, 0, register_write::<0xD000, _>) },
+    Row { layout: SHORT, ..row!("short regions, $8000", "CPU write to a register", ram, 0, register_write::<0x8000, _>) },
     row!("level", "level", line, 1000, level),
 ];
+/// A row of its own, since a call of it is a frame of 27,360 calls.
+pub const FRAME: Row = row!("a frame, $D000 on each line", "frame", line, 0, frame);
 
 impl Hosts {
-    fn new(open_bus: bool) -> Self {
-        let rig = Rig { open_bus, ..Rig::new(S) };
+    fn new(layout: Setup, open_bus: bool) -> Self {
+        let rig = Rig { open_bus, ..Rig::new(layout) };
         let two = || [rig.clone(), rig.clone()];
         Hosts {
             no_call: [NoCall([0; 1024]), NoCall([0; 1024])],
             empty: [Lent::none(), Lent::none()].map(Empty),
             empty_lent: [Lent::none(), Lent::none()].map(EmptyLent),
             rig: two(),
-            checked: two().map(|r| Checked::new(S, r)),
-            lent: two().map(|r| Lent::new(S, &r, 0)),
+            checked: two().map(|r| Checked::new(layout, r)),
+            lent: two().map(|r| Lent::new(layout, &r, 0)),
+            before: two().map(|r| Lent::new(layout, &r, 0)),
         }
     }
     pub fn of(row: &Row) -> Self {
-        let mut h = Hosts::new(row.open_bus);
+        let mut h = Hosts::new(row.layout, row.open_bus);
         for i in 0..2 {
             for (a, v) in (row.setup)() {
                 h.write(i, a, v);
@@ -195,43 +222,47 @@ impl Hosts {
         }
         h
     }
-    // One call on all three boards i, whose answers must be the same.
+    // One call on all boards i, whose answers must be the same.
     fn write(&mut self, i: usize, a: u16, v: u8) {
         self.rig[i].cpu_write(a, v);
-        assert_eq!((self.checked[i].cpu_write(a, v), self.lent[i].cpu_write(a, v)), (0, 0), "write {a:04x} {v:02x}");
+        let refusals = [self.checked[i].cpu_write(a, v), self.lent[i].cpu_write(a, v), self.before[i].cpu_write(a, v)];
+        assert_eq!(refusals, [0; 3], "write {a:04x} {v:02x}");
     }
     fn clock(&mut self, i: usize) {
         let ticked = self.rig[i].clock();
         let (c, l) = (self.checked[i].clock(), self.lent[i].clock());
         assert_eq!((c.ticked, c.refusal), (ticked, 0), "checked clock");
-        assert_eq!(l, c, "clock");
+        assert_eq!([l, self.before[i].clock()], [c; 2], "clock");
     }
     fn read(&mut self, i: usize, a: u16, bus: u8) {
-        let (r, c, l) = (&self.rig[i], &self.checked[i], &mut self.lent[i]);
+        let (r, c, l, b) = (&self.rig[i], &self.checked[i], &mut self.lent[i], &mut self.before[i]);
         let (cpu, picture) = (c.cpu_read(a, bus), c.picture_read(a));
         assert_eq!((cpu.byte, cpu.refusal), (r.bus_read(a, bus), 0), "checked read {a:04x}");
         assert_eq!((picture.byte, picture.refusal), (r.pic_read(a), 0), "checked picture read {a:04x}");
-        assert_eq!(l.cpu_read(a, bus), cpu, "read {a:04x}");
-        assert_eq!(l.picture_read(a), picture, "picture read {a:04x}");
+        assert_eq!([l.cpu_read(a, bus), b.cpu_read(a, bus)], [cpu; 2], "read {a:04x}");
+        assert_eq!([l.picture_read(a), b.picture_read(a)], [picture; 2], "picture read {a:04x}");
     }
     fn picture_write(&mut self, i: usize, a: u16, v: u8) {
         self.rig[i].pic_write(a, v);
-        let refusals = (self.checked[i].picture_write(a, v), self.lent[i].picture_write(a, v));
-        assert_eq!(refusals, (0, 0), "picture write {a:04x} {v:02x}");
+        let refusals =
+            [self.checked[i].picture_write(a, v), self.lent[i].picture_write(a, v), self.before[i].picture_write(a, v)];
+        assert_eq!(refusals, [0; 3], "picture write {a:04x} {v:02x}");
     }
     fn level(&mut self, i: usize) {
-        let (c, l) = (self.checked[i].level(), self.lent[i].level());
+        let (c, l, b) = (self.checked[i].level(), self.lent[i].level(), self.before[i].level());
         assert_eq!((c.level.to_bits(), c.refusal), (self.rig[i].b.output().to_bits(), 0), "checked level");
-        assert_eq!((l.level.to_bits(), l.name, l.refusal), (c.level.to_bits(), c.name, 0), "level");
+        assert_eq!([l, b].map(|l| (l.level.to_bits(), l.name, l.refusal)), [(c.level.to_bits(), c.name, 0); 2], "level");
     }
 }
 
-/// The three forms give the same answers on two long lists of calls, without open bus and with it, so that the bench
+/// All forms give the same answers on four long lists of calls, on both layouts, without open bus and with it, so that the bench
 /// compares like with like.
 pub fn agree(calls: u32) {
-    for open_bus in [false, true] {
-        agree_on(Hosts::new(open_bus), calls / 2);
+    for (layout, open_bus) in [(S, false), (S, true), (SHORT, false), (SHORT, true)] {
+        agree_on(Hosts::new(layout, open_bus), calls / 4);
     }
+    let mut h = Hosts::new(S, false);
+    refused(&mut h.checked[0], &mut h.lent[0]);
 }
 
 fn agree_on(mut h: Hosts, calls: u32) {
@@ -250,7 +281,8 @@ fn agree_on(mut h: Hosts, calls: u32) {
     }
     assert_eq!(h.checked[0].rig.m.ram(), h.rig[0].m.ram(), "checked: the changing buffer");
     assert_eq!(h.lent[0].changing, h.rig[0].m.ram(), "the changing buffer");
-    refused(&mut h.checked[0], &mut h.lent[0]);
+    assert_eq!(h.before[0].changing, h.rig[0].m.ram(), "before: the changing buffer");
+    assert_eq!(h.before[0].board.0, h.lent[0].board.0, "before: the board");
 }
 
 /// The checks are there: each refusal's number once from the checked form, and one from the proved board.

@@ -3,18 +3,18 @@ use Prim.Native.Nat.{_+_, _*_, _-_, _≤_}
 use mathlib.Core.Path.{_≡_, refl, subst}
 use native.Mathlib.Omega.{arith}
 use borrow.Author.Needs.{needs}
-use Rattle.memory_rule.proofs.Filling.{Stored, stored-next, stored-run, stored-all, far, nth-low}
+use Rattle.memory_rule.proofs.Filling.{Stored, stored-next, stored-run, stored-all, rows, far, nth-low}
 use Rattle.memory_rule.proofs.runs.run_table.Statement.{statement}
 use Rattle.memory_rule.proofs.runs.run_table.Tie as tie
 
 abbrev Inv-loop2 : tie.InvT-loop2
-Inv-loop2 runs pages₀ k run i₀ pages i = (i ≤ 8) × Stored runs pages (8 * k + i)
+Inv-loop2 runs pages₀ k run i₀ pages i = (i ≤ 8) × Stored (rows runs) pages (8 * k + i)
 
 abbrev μ-loop2 : tie.MeasureT-loop2
 μ-loop2 runs pages₀ k run i₀ pages i = 8 - i
 
 abbrev Inv-loop : tie.InvT-loop
-Inv-loop runs pages₀ k₀ pages k = Stored runs pages (8 * k)
+Inv-loop runs pages₀ k₀ pages k = Stored (rows runs) pages (8 * k)
 
 abbrev μ-loop : tie.MeasureT-loop
 μ-loop runs pages₀ k₀ pages k = 8 - k
@@ -32,7 +32,7 @@ loop2-holds : tie.Need-loop2-holds Inv-loop2 μ-loop2 Inv-loop μ-loop
 loop2-holds c =
     let l = c .before .before .loop in
     let same : 8 * l .k ≡ 8 * l .k + 0 = omega arith in
-    (omega arith, subst (Stored (c .before .before .before .args .t1) (l .pages)) same (l .inv))
+    (omega arith, subst (Stored (rows (c .before .before .before .args .t1)) (l .pages)) same (l .inv))
 
 mul-at : tie.Need-mul-at Inv-loop2 μ-loop2 Inv-loop μ-loop
 mul-at c = search needs
@@ -69,7 +69,7 @@ loop2-again : tie.Need-loop2-again Inv-loop2 μ-loop2 Inv-loop μ-loop
 loop2-again c =
     let m = c .before .before .before .loop2 in
     let l = c .before .before .before .before .before .before .loop in
-    (omega arith, stored-next (c .before .before .before .before .before .before .before .args .t1) (m .pages) (l .k) (m .i) _ (omega arith) (omega arith) (m .inv .1) (c .pages-on .ensures))
+    (omega arith, stored-next (rows (c .before .before .before .before .before .before .before .args .t1)) (m .pages) (l .k) (m .i) _ (omega arith) (omega arith) (m .inv .1) (c .pages-on .ensures))
 
 add-k : tie.Need-add-k Inv-loop2 μ-loop2 Inv-loop μ-loop
 add-k c = search needs
@@ -80,10 +80,10 @@ loop-less c = search needs
 loop-again : tie.Need-loop-again Inv-loop2 μ-loop2 Inv-loop μ-loop
 loop-again c =
     let m = c .before .loop2 in
-    stored-run (c .before .before .before .before .before .args .t1) (m .pages) (c .before .before .before .before .loop .k) (m .i) (m .inv .0) (omega arith) (m .inv .1)
+    stored-run (rows (c .before .before .before .before .before .args .t1)) (m .pages) (c .before .before .before .before .loop .k) (m .i) (m .inv .0) (omega arith) (m .inv .1)
 
 returns : tie.Need-returns Inv-loop2 μ-loop2 Inv-loop μ-loop
-returns c = stored-all (c .before .before .args .t1) (c .before .loop .pages) (c .before .loop .k) (omega arith) (c .before .loop .inv)
+returns c = stored-all (rows (c .before .before .args .t1)) (c .before .loop .pages) (c .before .loop .k) (omega arith) (c .before .loop .inv)
 
 pub run-table-spec : {M : Type 1} → statement M
 run-table-spec =

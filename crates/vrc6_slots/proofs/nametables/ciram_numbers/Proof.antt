@@ -36,7 +36,7 @@ returns : tie.Need-returns
 returns c =
     let h : length (c .whole-registers .result) ≡ 4 = search needs in
     rw (c .before .enum-told .given .1, ← c .whole-registers .ensures)
-    (ap (map (λ (v : ℕ). v % 2)) (spelled 4 (c .whole-registers .result) h))
+    (ap (map (λ (v : ℕ). v % 2)) (spelled 0 4 (c .whole-registers .result) h))
 
 returns-2 : tie.Need-returns-2
 returns-2 c =
