@@ -9,7 +9,7 @@ use Rattle.memory_pages.specs.Pages.{unmapped}
 use Rattle.memory_layout.specs.declared.regions.Region.{Region}
 use Rattle.memory_rule.specs.Rule.{shown}
 
--- the entries of a window of s bytes on bank b, one for each of its pages (01, Paging 2)
+-- the entries of a window of s bytes on bank b, one for each of its pages (01, Paging 1; 01, Paging 2; memory.rs, map_prg; memory.rs, map_chr)
 abbrev pub window : Region → (s : ℕ) → ℤ → List Page
 window r s b = tabulate (s / 1024) (shown r s b)
 

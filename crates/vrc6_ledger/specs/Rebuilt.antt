@@ -31,11 +31,13 @@ abbrev pub rebuilt : Rebuild → Board
 rebuilt (creation c) = create c .board
 rebuilt (bankWrite x address byte r) = cpuWrite x address byte .board
 
--- the layout and the banking values that the entries follow from, by the call's arguments (01, Banks and decode 2)
+-- the layout that the entries follow from, by the call's arguments (01, Banks and decode 2)
 abbrev pub layoutUsed : Rebuild → MemoryLayout
 layoutUsed (creation c) = c .layout
 layoutUsed (bankWrite x address byte r) = x .board .layout
 
+-- and the banking values: creation's first ones, or those of the board that was lent with the byte in its register
+-- (01, Banks and decode 2; 01, Banks and decode 6)
 abbrev pub bankingUsed : Rebuild → Banking
 bankingUsed (creation c) = firstBanking (c .settings)
 bankingUsed (bankWrite x address byte r) = bankWritten r byte (x .board .banking)
@@ -46,7 +48,7 @@ abbrev pub Reaching : Rebuild → Type 0
 Reaching (creation c) = Unit {0}
 Reaching (bankWrite x address byte r) = (decode (x .board .banking .«revision_b») address ≡ OfBank r) × Sized (x .board .banking)
 
--- of a board: for n below 4 picture entries 8 + n and 12 + n are equal, and both are the entry of nametable n by 01's rule; so each
+-- of a board: for n below 4 picture entries 8 + n and 12 + n are equal, and both are the entry of nametable n by the paging rule; so each
 -- picture address from $2000 to $2FFF is served by the entry that serves the one $1000 on (02, change 3; 01, Banks and decode 4)
 pub record NametablesShown (l : MemoryLayout) (k : Banking) (b : Board) : Type 0 where
   pub at-2000 : (n : ℕ) → n < 4 → getD (table picture b) (8 + n) unmapped ≡ nametableEntry l k n

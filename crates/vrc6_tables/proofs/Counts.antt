@@ -43,9 +43,10 @@ module _ (l : MemoryLayout) (b : Banking) (w : Sized b) where
   twelve : length (slots ++ names) ≡ 12
   twelve = omega (arith, length-append slots names, eight, four)
 
+  -- what follows says of the last four entries only what has to be shown, so that another last part fails where it is wrong
   sixteen : length (pictureEntries l b) ≡ 16
   unfolding pictureEntries
-  sixteen = omega (arith, length-append (slots ++ names) names, twelve, four)
+  sixteen = simp (length-append, length-map) (omega (arith, slots-count (b .«banking_mode») (b .chr) (w .chrs), w .names))
 
   -- nametable n, by its number
   nth-name : (n : ℕ) → n < 4 → getD names n unmapped ≡ nametableEntry l b n
@@ -54,15 +55,14 @@ module _ (l : MemoryLayout) (b : Banking) (w : Sized b) where
   low : (n : ℕ) → n < 4 → getD (pictureEntries l b) (8 + n) unmapped ≡ nametableEntry l b n
   unfolding pictureEntries
   low n h =
-      List·getD-append (slots ++ names) names unmapped (8 + n) (omega (arith, twelve))
+      List·getD-append (slots ++ names) _ unmapped (8 + n) (omega (arith, twelve))
       ∙ ap (λ (k : ℕ). getD (slots ++ names) (k + n) unmapped) (sym eight)
       ∙ getD-append-add slots names n unmapped ∙ nth-name n h
 
   high : (n : ℕ) → n < 4 → getD (pictureEntries l b) (12 + n) unmapped ≡ nametableEntry l b n
   unfolding pictureEntries
   high n h =
-      ap (λ (k : ℕ). getD (slots ++ names ++ names) (k + n) unmapped) (sym twelve) ∙ getD-append-add (slots ++ names) names n unmapped
-      ∙ nth-name n h
+      ap (λ (k : ℕ). getD (pictureEntries l b) (k + n) unmapped) (sym twelve) ∙ getD-append-add (slots ++ names) _ n unmapped ∙ nth-name n h
 
 -- the CPU's table, with PRG RAM at $6000 and without
 cpu-count : (l : MemoryLayout) (b : Banking) → length (cpuEntries l b) ≡ 64

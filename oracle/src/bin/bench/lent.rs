@@ -10,6 +10,12 @@ use tetanes_shim::{
 /// Room for a board, whose fields no host needs to know.
 #[repr(C, align(8))]
 pub struct Board(pub [u8; 1024]);
+impl Board {
+    /// The 80 entries of both tables, which lie behind the 20 bytes of the layout.
+    pub fn tables(&self) -> &[u8] {
+        &self.0[20..340]
+    }
+}
 
 /// What a board is made with, by numbers.
 #[repr(C)]

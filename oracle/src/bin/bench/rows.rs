@@ -282,7 +282,7 @@ fn agree_on(mut h: Hosts, calls: u32) {
     assert_eq!(h.checked[0].rig.m.ram(), h.rig[0].m.ram(), "checked: the changing buffer");
     assert_eq!(h.lent[0].changing, h.rig[0].m.ram(), "the changing buffer");
     assert_eq!(h.before[0].changing, h.rig[0].m.ram(), "before: the changing buffer");
-    assert_eq!(h.before[0].board.0, h.lent[0].board.0, "before: the board");
+    assert!(h.before[0].board.tables() == h.lent[0].board.tables(), "before: the tables");
 }
 
 /// The checks are there: each refusal's number once from the checked form, and one from the proved board.

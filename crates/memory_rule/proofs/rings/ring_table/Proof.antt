@@ -72,7 +72,7 @@ loop2-again c =
     let runs = c .before .before .before .before .before .before .before .args .t1 in (
       omega arith,
       stored-next (turns runs) (m .pages) (l .k) (m .i) _ (omega arith) (omega arith) (m .inv .1)
-      (c .before .pages-on .ensures ∙ ap (pagesOn (ringAt runs (l .k) .ring .first)) (m .inv .2 .0)),
+          (c .before .pages-on .ensures ∙ ap (pagesOn (ringAt runs (l .k) .ring .first)) (m .inv .2 .0)),
       here-next runs (l .k) (m .i) (m .at) _ (m .inv .2) (c .behind .ensures),
     )
 

@@ -51,7 +51,7 @@ returns c =
     let pages : a .size / 1024 * 1024 ≡ a .size = omega (arith, s .pre .paged) in
     let at = subst (λ (n : ℕ). c .round .result ≡ (base (a .region) n (a .bank) / 1024 + 8 * a .k) % bankCount (a .region) 1024) (sym pages) (begins c) in (
       subst (λ (n : ℕ). ringEntries g ≡ octet (a .region) n (a .bank) (a .k)) pages
-      (turned (a .region) (s .pre .whole) (a .size / 1024) (a .bank) (a .k) g (c .before .before .of .ensures .0) at),
+          (turned (a .region) (s .pre .whole) (a .size / 1024) (a .bank) (a .k) g (c .before .before .of .ensures .0) at),
       record { ring = c .before .before .of .ensures .1; from = c .round .ensures .1 },
     )
 
