@@ -10,7 +10,7 @@ use Rattle.memory_pages.specs.declared.page.Page.{Page}
 use Rattle.memory_pages.specs.Pages.{offset, unmapped}
 use Rattle.memory_rule.specs.declared.runs.EntryRun.{EntryRun}
 use Rattle.memory_rule.specs.declared.rings.RingRun.{RingRun}
-use Rattle.memory_rule.specs.Required.{AllBegun, AllSmall, Begun, Small, nth, ringAt, ringNth, runAt}
+use Rattle.memory_rule.specs.Required.{AllBegun, AllSmall, Begun, Small, nth, ringRunAt, ringNth, runAt}
 use Rattle.base_shared.specs.Lists.{tabulate}
 
 -- entry i of run k is said by `row`
@@ -64,20 +64,20 @@ small-more {r} {runs} h s = record { each = go }
 -- ---- runs round rings
 module _ (runs : List RingRun) where
   abbrev pub turns : ℕ → ℕ → Page
-  turns k i = ringNth (ringAt runs k) i
+  turns k i = ringNth (ringRunAt runs k) i
 
   -- entry i of run k is at this page of its ring
   abbrev pub Here : (k i at : ℕ) → Type 0
-  Here k i at = (at ≡ (ringAt runs k .from + i) % ringAt runs k .ring .count) × (at < ringAt runs k .ring .count)
+  Here k i at = (at ≡ (ringRunAt runs k .from + i) % ringRunAt runs k .ring .count) × (at < ringRunAt runs k .ring .count)
 
   module _ (k : ℕ) where
     abbrev from : ℕ
-    from = ringAt runs k .from
+    from = ringRunAt runs k .from
 
     abbrev count : ℕ
-    count = ringAt runs k .ring .count
+    count = ringRunAt runs k .ring .count
 
-    pub here-first : Begun (ringAt runs k) → Here k 0 (ringAt runs k .from)
+    pub here-first : Begun (ringRunAt runs k) → Here k 0 (ringRunAt runs k .from)
     here-first h =
         let plain : from ≡ from + 0 = omega arith in
         (sym (mod-eq-of-lt (h .from)) ∙ ap (λ (n : ℕ). n % count) plain, h .from)
@@ -94,6 +94,6 @@ begun-none = record { each = λ k l. absurd (omega arith) }
 pub begun-more : {r : RingRun} {runs : List RingRun} {n : ℕ} → Begun r → AllBegun n runs → AllBegun (suc n) (r ∷ runs)
 begun-more {r} {runs} {n} h s = record { each = go }
   where
-    go : (k : ℕ) → k < suc n → Begun (ringAt (r ∷ runs) k)
+    go : (k : ℕ) → k < suc n → Begun (ringRunAt (r ∷ runs) k)
     go zero l = h
     go (suc k) l = s .each k (omega arith)

@@ -7,14 +7,13 @@ use native.Mathlib.Nat.{div-add-mod, mod-add-mod, mod-eq-of-lt, mod-lt, mod-mod,
 use lib.Dec.{eqb}
 use lib.IntN.{ℤ, pos}
 use borrow.Author.Tests.{eqb-true, eqb-false}
-use Rattle.base_shared.specs.Lists.{tabulate}
 use Rattle.memory_pages.specs.Pages.{entry, offset, pagesOn, unmapped}
 use Rattle.memory_pages.proofs.Entries.{offset-of, entry-on}
 use Rattle.memory_layout.specs.declared.regions.Region.{Region}
 use Rattle.memory_rule.specs.declared.rings.PageRing.{PageRing}
 use Rattle.memory_rule.specs.declared.rings.RingRun.{RingRun}
 use Rattle.memory_rule.specs.Rule.{remEuclid, bankCount, base, shown}
-use Rattle.memory_rule.specs.Required.{Round, Whole, octet, ringEntries, ringNth, ringOf, ringPage}
+use Rattle.memory_rule.specs.Required.{Closed, Whole, octet, ringEntries, ringNth, ringOf, ringPage}
 use Rattle.memory_rule.specs.Laws.{RingLaw}
 use Rattle.memory_rule.proofs.Unwrapped.{same-rule}
 
@@ -33,7 +32,7 @@ module _ (r : Region) (w : Whole r) where
   counted : (r .len ≡ 0 → ⊥) → r .len ≡ 1024 * count
   counted n = omega (arith, w .pages)
 
-  pub ring-round : Round (ringOf r)
+  pub ring-round : Closed (ringOf r)
   ring-round = record { some = omega arith; low = go (eqb (r .len) 0) refl }
     where
       go : (z : Bool) → eqb (r .len) 0 ≡ z → offset (cond z unmapped (entry (r .start) (r .writable))) + 1024 * count < 2 ^ 30
@@ -88,4 +87,4 @@ module _ (r : Region) (w : Whole r) where
       rounds 1 (pos v) 0 ∙ ap (pagesOn (ringOf r .first)) (ap (λ (n : ℕ). n % count) plain ∙ mod-mod v count)
 
 pub ring-law : RingLaw
-ring-law r w p one b i = rounds r w p b i
+ring-law r w p b i = rounds r w p b i

@@ -1,7 +1,7 @@
 -- Laws of the paging rule, for every layout, region and window; `proofs/` proves them. Assumes nothing.
 use mathlib.Core.Path.{_≡_}
 use mathlib.Core.Bool.{true}
-use Prim.Native.Nat.{ℕ, _+_, _*_, _≤_, _<_}
+use Prim.Native.Nat.{ℕ, _+_, _*_, _<_}
 use lib.IntN.{ℤ, pos, _+ℤ_}
 use Rattle.memory_layout.specs.declared.regions.MemoryLayout.{MemoryLayout}
 use Rattle.memory_layout.specs.declared.regions.Region.{Region}
@@ -28,5 +28,5 @@ ShownLaw =
 -- 02, change 3)
 abbrev pub RingLaw : Type 0
 RingLaw =
-    (r : Region) → Whole r → (p : ℕ) → 1 ≤ p → (b : ℤ) (i : ℕ)
+    (r : Region) → Whole r → (p : ℕ) (b : ℤ) (i : ℕ)
     → shown r (p * 1024) b i ≡ ringPage (ringOf r) (remEuclid b (bankCount r (p * 1024)) * p + i)

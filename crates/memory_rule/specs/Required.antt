@@ -1,4 +1,4 @@
--- What the functions of this crate require of their arguments. Assumes nothing.
+-- What the functions of this crate require of their arguments, and what inner ones return. Assumes nothing.
 use mathlib.Core.Path.{_≡_}
 use mathlib.Core.Bool.{Bool, true, cond, _||_}
 use mathlib.Core.List.{List}
@@ -51,17 +51,16 @@ abbrev pub ringPage : PageRing → (n : ℕ) → Page
 ringPage g n = pagesOn (g .first) (n % g .count)
 
 -- the ring has a page, and its last one ends below 2 ^ 30
-pub record Round (g : PageRing) : Type 0 where
+pub record Closed (g : PageRing) : Type 0 where
   pub some : 1 ≤ g .count
   pub low : offset (g .first) + 1024 * g .count < 2 ^ 30
 
--- entries 8 k to 8 k + 7 of a window of s bytes on a region, both of whole pages
+-- entries 8 k to 8 k + 7 of a window of s bytes, 16,384 at most, on a region, both of whole pages
 pub record Turning (r : Region) (s k : ℕ) : Type 0 where
   pub whole : Whole r
-  pub some : 1 ≤ s
   pub most : s ≤ 16_384
   pub paged : s % 1024 ≡ 0
-  pub page : k < 2
+  pub inside : 8_192 * k + 8_192 ≤ s
 
 -- ---- runs of eight entries
 -- entry i of a run
@@ -93,25 +92,25 @@ abbrev pub ringEntries : RingRun → List Page
 ringEntries r = tabulate 8 (ringNth r)
 
 -- eight times the unmapped entry: `RingRun::UNMAPPED`
-abbrev pub unmappedRing : RingRun
-unmappedRing = record { ring = record { first = unmapped; count = 1 }; from = 0 }
+abbrev pub unmappedRingRun : RingRun
+unmappedRingRun = record { ring = record { first = unmapped; count = 1 }; from = 0 }
 
 -- run k of a list of runs round rings, and behind its end a run of zeros
-abbrev pub ringAt : List RingRun → (k : ℕ) → RingRun
-ringAt runs k = getD runs k (record { ring = record { first = unmapped; count = 0 }; from = 0 })
+abbrev pub ringRunAt : List RingRun → (k : ℕ) → RingRun
+ringRunAt runs k = getD runs k (record { ring = record { first = unmapped; count = 0 }; from = 0 })
 
 -- entry i of such runs one after the other
 abbrev pub ringEntry : List RingRun → (i : ℕ) → Page
-ringEntry runs i = ringNth (ringAt runs (i / 8)) (i % 8)
+ringEntry runs i = ringNth (ringRunAt runs (i / 8)) (i % 8)
 
 -- the run begins on a page of its ring
 pub record Begun (r : RingRun) : Type 0 where
-  pub ring : Round (r .ring)
+  pub ring : Closed (r .ring)
   pub from : r .from < r .ring .count
 
--- each of n runs does
+-- each of the first n runs does
 pub record AllBegun (n : ℕ) (runs : List RingRun) : Type 0 where
-  pub each : (k : ℕ) → k < n → Begun (ringAt runs k)
+  pub each : (k : ℕ) → k < n → Begun (ringRunAt runs k)
 
 -- every page of the run ends below 2 ^ 30
 pub record Small (r : EntryRun) : Type 0 where

@@ -47,7 +47,7 @@ fn bank_base(region: Region, size: u32, bank: i32) -> u32
 }
 
 // The first page of a window. A bank begins before its region ends, so this page never wraps.
-pub fn first_page(region: Region, size: u32, bank: i32) -> Page
+fn first_page(region: Region, size: u32, bank: i32) -> Page
     requires { ⌜ Reach region size ⌝ }
     ensures { λ r. ⌜ r ≡ shown region size bank 0 ⌝ }
 {

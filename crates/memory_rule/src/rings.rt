@@ -1,5 +1,6 @@
 // A region as a ring of pages: behind its last page comes its first. For windows of whole pages this is the paging rule. The bank says
-// at which page of the ring a window begins, and the window's entries go round from there, so that only a bank's number is divided.
+// at which page of the ring a window begins, and the window's entries go round from there, so that at most the first of eight entries
+// needs a division.
 use crate::bank_base;
 use crate::bank_count;
 use memory_layout::Region;
@@ -7,7 +8,7 @@ use memory_pages::Page;
 ghost use mathlib.Core.Path.{_≡_};
 ghost use Prim.Native.Nat.{_+_, _%_, _<_};
 ghost use Rattle.base_shared.specs.Lists.{tabulate};
-ghost use Rattle.memory_rule.specs.Required.{AllBegun, Begun, Round, Turning, Whole, octet, ringEntries, ringEntry, ringOf, ringPage};
+ghost use Rattle.memory_rule.specs.Required.{AllBegun, Begun, Closed, Turning, Whole, octet, ringEntries, ringEntry, ringOf, ringPage};
 
 pub struct PageRing {
     pub first: Page,
@@ -24,7 +25,7 @@ impl PageRing {
 
     pub fn of(region: Region) -> PageRing
         requires { ⌜ Whole region ⌝ }
-        ensures { λ r. ⌜ (r ≡ ringOf region) × Round r ⌝ }
+        ensures { λ r. ⌜ (r ≡ ringOf region) × Closed r ⌝ }
     {
         if region.len == 0 {
             return PageRing::UNMAPPED;
@@ -37,7 +38,7 @@ impl PageRing {
 
     // Counts n pages round the ring.
     fn round(self, n: u32) -> u32
-        requires { ⌜ Round self ⌝ }
+        requires { ⌜ Closed self ⌝ }
         ensures { λ r. ⌜ (r ≡ n % self .count) × (r < self .count) ⌝ }
     {
         // The usual number is below the count, and then a division is saved.
@@ -49,7 +50,7 @@ impl PageRing {
 
     // Page n, counted round the ring.
     pub fn page(self, n: u32) -> Page
-        requires { ⌜ Round self ⌝ }
+        requires { ⌜ Closed self ⌝ }
         ensures { λ r. ⌜ r ≡ ringPage self n ⌝ }
     {
         self.first.pages_on(self.round(n))
@@ -57,7 +58,7 @@ impl PageRing {
 
     // The number of the page behind page n.
     fn behind(self, n: u32) -> u32
-        requires { ⌜ (Round self) × (n < self .count) ⌝ }
+        requires { ⌜ (Closed self) × (n < self .count) ⌝ }
         ensures { λ r. ⌜ (r ≡ (n + 1) % self .count) × (r < self .count) ⌝ }
     {
         let next = n + 1;

@@ -4,14 +4,12 @@ use Prim.Native.Nat.{ℕ, _+_, _-_, _/_, _%_, _≤_, _<_}
 use native.Mathlib.Omega.{arith}
 use lib.ListN.{getD, length-set}
 use Rattle.base_shared.specs.Refusals.{unless}
-use Rattle.memory_pages.specs.declared.page.Page.{Page}
 use Rattle.memory_pages.specs.Pages.{unmapped}
 use Rattle.memory_layout.specs.declared.regions.MemoryLayout.{MemoryLayout}
 use Rattle.memory_tables.specs.Paging.{picture}
 use Rattle.registers.specs.declared.BankRegister.{BankRegister}
 use Rattle.registers.specs.declared.BankRegister.the-variants.{Prg16, Prg8, Mode, Chr}
 use Rattle.registers.specs.declared.Register.{Register}
-use Rattle.registers.specs.Decode.{decode}
 use Rattle.vrc6_slots.proofs.Counts.{mirroring-count, numbers-count}
 use Rattle.vrc6_banking.specs.declared.banking.Banking.{Banking}
 use Rattle.vrc6_banking.specs.Banking.{bankWritten}
@@ -19,9 +17,9 @@ use Rattle.vrc6_tables.specs.Laws.{Sized, nametableEntry}
 use Rattle.vrc6_tables.specs.Tables.{pictureEntries}
 use Rattle.vrc6_tables.proofs.Counts.{nametable-law}
 use Rattle.vrc6.specs.declared.board.Board.{Board}
-use Rattle.vrc6.specs.Boards.{State, newBoard, zeroBoard, entryOf, table}
+use Rattle.vrc6.specs.Boards.{newBoard, zeroBoard, entryOf, table}
 use Rattle.vrc6.specs.Calls.{registerWritten, cpuWritten}
-use Rattle.vrc6_ledger.specs.Rebuilt.{Rebuild, creation, bankWrite, rebuildRefusal, rebuilt, layoutUsed, bankingUsed, Reaching, NametablesShown, RebuiltLaw}
+use Rattle.vrc6_ledger.specs.Rebuilt.{Rebuild, creation, bankWrite, rebuildRefusal, rebuilt, layoutUsed, bankingUsed, ReachesBank, LentSized, NametablesShown, RebuiltLaw}
 
 -- ---- a board whose picture entries follow from a layout and banking values
 module _ (l : MemoryLayout) (k : Banking) (w : Sized k) (b : Board) (e : table picture b ≡ pictureEntries l k) where
@@ -53,15 +51,15 @@ sized Mode v b w = record { chrs = w .chrs; names = numbers-count v (b .chr) }
 sized (Chr i) v b w = record { chrs = length-set (b .chr) (i % 8) v ∙ w .chrs; names = numbers-count (b .«banking_mode») _ }
 
 -- what the call leaves where its number is 0
-done : (r : Rebuild) → Reaching r → rebuildRefusal r ≡ 0 → table picture (rebuilt r) ≡ pictureEntries (layoutUsed r) (bankingUsed r)
+done : (r : Rebuild) → ReachesBank r → rebuildRefusal r ≡ 0 → table picture (rebuilt r) ≡ pictureEntries (layoutUsed r) (bankingUsed r)
 done (creation c) t h = ap (λ (n : ℕ). table picture (unless n (newBoard (c .layout) (c .settings)) zeroBoard)) h
 done (bankWrite x address byte r) t h =
     ap (λ (n : ℕ). table picture (unless n (cpuWritten x address byte) x .board)) h
-    ∙ ap (λ (d : Register). table picture (registerWritten d byte (x .board))) (t .0)
+    ∙ ap (λ (d : Register). table picture (registerWritten d byte (x .board))) t
 
-counted : (r : Rebuild) → Reaching r → Sized (bankingUsed r)
+counted : (r : Rebuild) → LentSized r → Sized (bankingUsed r)
 counted (creation c) t = record { chrs = refl; names = mirroring-count (c .settings .mirroring) }
-counted (bankWrite x address byte r) t = sized r byte (x .board .banking) (t .1)
+counted (bankWrite x address byte r) t = sized r byte (x .board .banking) t
 
 pub rebuilt-law : RebuiltLaw
-rebuilt-law r t h = shows (layoutUsed r) (bankingUsed r) (counted r t) (rebuilt r) (done r t h)
+rebuilt-law r t w h = shows (layoutUsed r) (bankingUsed r) (counted r w) (rebuilt r) (done r t h)

@@ -36,17 +36,21 @@ abbrev pub layoutUsed : Rebuild → MemoryLayout
 layoutUsed (creation c) = c .layout
 layoutUsed (bankWrite x address byte r) = x .board .layout
 
--- and the banking values: creation's first ones, or those of the board that was lent with the byte in its register
+-- and the banking values: creation's first ones, or, of a write, those of the lent board once the register has taken the byte
 -- (01, Banks and decode 2; 01, Banks and decode 6)
 abbrev pub bankingUsed : Rebuild → Banking
 bankingUsed (creation c) = firstBanking (c .settings)
 bankingUsed (bankWrite x address byte r) = bankWritten r byte (x .board .banking)
 
--- the address reaches the bank register, and the lent board has as many registers and numbers as its type says; creation is lent no board
--- (01, Banks and decode 1; 01, Records 4)
-abbrev pub Reaching : Rebuild → Type 0
-Reaching (creation c) = Unit {0}
-Reaching (bankWrite x address byte r) = (decode (x .board .banking .«revision_b») address ≡ OfBank r) × Sized (x .board .banking)
+-- the address of a write reaches the bank register (01, Banks and decode 1)
+abbrev pub ReachesBank : Rebuild → Type 0
+ReachesBank (creation c) = Unit {0}
+ReachesBank (bankWrite x address byte r) = decode (x .board .banking .«revision_b») address ≡ OfBank r
+
+-- the lent board has as many registers and numbers as its type says; creation is lent none (01, Records 4)
+abbrev pub LentSized : Rebuild → Type 0
+LentSized (creation c) = Unit {0}
+LentSized (bankWrite x address byte r) = Sized (x .board .banking)
 
 -- of a board: for n below 4 picture entries 8 + n and 12 + n are equal, and both are the entry of nametable n by the paging rule; so each
 -- picture address from $2000 to $2FFF is served by the entry that serves the one $1000 on (02, change 3; 01, Banks and decode 4)
@@ -58,4 +62,4 @@ pub record NametablesShown (l : MemoryLayout) (k : Banking) (b : Board) : Type 0
 
 -- after every rebuild that is not refused (02, change 3)
 abbrev pub RebuiltLaw : Type 0
-RebuiltLaw = (r : Rebuild) → Reaching r → rebuildRefusal r ≡ 0 → NametablesShown (layoutUsed r) (bankingUsed r) (rebuilt r)
+RebuiltLaw = (r : Rebuild) → ReachesBank r → LentSized r → rebuildRefusal r ≡ 0 → NametablesShown (layoutUsed r) (bankingUsed r) (rebuilt r)

@@ -2,7 +2,7 @@
 use mathlib.Core.Path.{_≡_, refl, sym, ap, _∙_}
 use mathlib.Core.Bool.{true}
 use mathlib.Core.List.{List, [], _∷_, map}
-use Prim.Native.Nat.{ℕ, _+_, _*_, _%_, _^_, _≤_, _<_}
+use Prim.Native.Nat.{ℕ, _+_, _*_, _%_, _^_, _≤_}
 use Rattle.memory_pages.specs.declared.page.Page.{Page}
 use Rattle.memory_layout.specs.declared.regions.MemoryLayout.{MemoryLayout}
 use Rattle.memory_layout.specs.declared.regions.Region.{Region}
@@ -26,8 +26,8 @@ module _ (l : MemoryLayout) (h : Limits l) (src : Src) (r : Region) (e : r ≡ r
   pub held-by : (s k : ℕ) → s ≤ 16_384 → 8_192 * k + 8_192 ≤ s → held r s ≡ true → Held r s k
   held-by s k m i w = record { below = whole .below; most = m; whole = w; inside = i }
 
-  pub turning : (s k : ℕ) → 1 ≤ s → s ≤ 16_384 → s % 1024 ≡ 0 → k < 2 → Turning r s k
-  turning s k o m p n = record { whole = whole; some = o; most = m; paged = p; page = n }
+  pub turning : (s k : ℕ) → s ≤ 16_384 → 8_192 * k + 8_192 ≤ s → s % 1024 ≡ 0 → Turning r s k
+  turning s k m i p = record { whole = whole; most = m; paged = p; inside = i }
 
 -- ---- windows of one page
 each-same : (f g : ℕ → Page) → ((v : ℕ) → f v ≡ g v) → (vs : List ℕ) → map f vs ≡ map g vs

@@ -28,7 +28,7 @@ ghost use mathlib.Core.List.{_++_, map};
 ghost use Rattle.base_shared.specs.Bits.{bit};
 ghost use Rattle.memory_layout.specs.Required.{Limits};
 ghost use Rattle.memory_layout.specs.Layout.{region};
-ghost use Rattle.memory_rule.specs.Required.{Begun, Held, Round, Small, Turning, ringEntries, ringOf, ringPage, runEntries};
+ghost use Rattle.memory_rule.specs.Required.{Begun, Held, Closed, Small, Turning, ringEntries, ringOf, ringPage, runEntries};
 ghost use Rattle.vrc6_slots.specs.Chr.{chrSlots};
 ghost use Rattle.vrc6_tables.specs.Required.{ramEntries};
 ghost use Rattle.vrc6_tables.specs.Tables.{cpuEntries, nametableSource, pictureEntries};
@@ -101,7 +101,7 @@ fn ram_ring(ram: Region, mode: u8) -> RingRun
 
 // A window of one page.
 fn one_page(ring: PageRing, bank: u8) -> Page
-    requires { ⌜ Round ring ⌝ }
+    requires { ⌜ Closed ring ⌝ }
     ensures { λ r. ⌜ r ≡ ringPage ring bank ⌝ }
 {
     ring.page(bank as u32)
@@ -109,7 +109,7 @@ fn one_page(ring: PageRing, bank: u8) -> Page
 
 // Eight of them.
 fn bank_pages(ring: PageRing, banks: [u8; 8]) -> [Page; 8]
-    requires { ⌜ Round ring ⌝ }
+    requires { ⌜ Closed ring ⌝ }
     ensures { λ r. ⌜ r ≡ map (ringPage ring) banks ⌝ }
 {
     [
@@ -126,10 +126,10 @@ fn bank_pages(ring: PageRing, banks: [u8; 8]) -> [Page; 8]
 
 // The slots' entries.
 fn slot_pages(chr: PageRing, banking: Banking) -> [Page; 8]
-    requires { ⌜ Round chr ⌝ }
+    requires { ⌜ Closed chr ⌝ }
     ensures { λ r. ⌜ r ≡ map (ringPage chr) (chrSlots (banking .«banking_mode») (banking .chr)) ⌝ }
 {
-    // The usual mode shows each register in a slot of its own, and then no banks have to be put together.
+    // A mode whose low two bits are 0 shows each register in a slot of its own, and then no banks have to be put together.
     if banking.banking_mode % 4 == 0 {
         let registers = banking.chr;
         return bank_pages(chr, registers);
@@ -137,10 +137,10 @@ fn slot_pages(chr: PageRing, banking: Banking) -> [Page; 8]
     bank_pages(chr, banking.chr_banks())
 }
 
-// The region that the nametables select from.
+// The ring of the region that the nametables select from.
 fn nametable_ring(layout: MemoryLayout, mode: u8) -> PageRing
     requires { ⌜ Limits layout ⌝ }
-    ensures { λ r. ⌜ (r ≡ ringOf (region layout (nametableSource mode))) × Round r ⌝ }
+    ensures { λ r. ⌜ (r ≡ ringOf (region layout (nametableSource mode))) × Closed r ⌝ }
 {
     if chr_rom_nametables(mode) {
         return PageRing::of(layout.region(Src::Chr));
@@ -150,7 +150,7 @@ fn nametable_ring(layout: MemoryLayout, mode: u8) -> PageRing
 
 // The four nametable entries.
 fn nametable_pages(source: PageRing, numbers: [u8; 4]) -> [Page; 4]
-    requires { ⌜ Round source ⌝ }
+    requires { ⌜ Closed source ⌝ }
     ensures { λ r. ⌜ r ≡ map (ringPage source) numbers ⌝ }
 {
     [

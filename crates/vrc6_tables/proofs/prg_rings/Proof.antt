@@ -1,7 +1,7 @@
 -- `prg_rings` meets its contract: the runs joined are the table, also where a window goes round its region. Assumes nothing.
-use mathlib.Core.Path.{_≡_, refl, sym, _∙_}
+use mathlib.Core.Path.{_≡_, refl}
 use mathlib.Core.List.{[], _∷_}
-use Prim.Native.Nat.{ℕ, _*_, _%_, _≤_, _<_}
+use Prim.Native.Nat.{ℕ, _+_, _*_, _%_, _≤_}
 use native.Mathlib.Omega.{arith}
 use lib.IntN.{pos}
 use lib.ListN.{getD}
@@ -9,7 +9,7 @@ use mir.Syntax.{w32}
 use mir.Val.{SFits}
 use mir.Facts.{toZ-ofZ}
 use Rattle.memory_layout.specs.declared.regions.Src.the-variants.{PrgRom, PrgRam}
-use Rattle.memory_rule.specs.Required.{Begun, Turning, unmappedRing}
+use Rattle.memory_rule.specs.Required.{Begun, Turning, unmappedRingRun}
 use Rattle.memory_rule.proofs.Filling.{turns, begun-none, begun-more}
 use Rattle.vrc6_tables.proofs.Numbers.{signed}
 use Rattle.vrc6_tables.proofs.Regions.{turning}
@@ -23,17 +23,17 @@ number : (c : tie.After-banks) (i : ℕ) → SFits w32 (pos (getD (c .before .be
 number c i = signed (getD (c .before .before .before .args .banking .«prg_banks») i 0) (search needs)
 
 -- both regions are whole pages
-rom-turns : (c : tie.After-banks) (s k : ℕ) → 1 ≤ s → s ≤ 16384 → s % 1024 ≡ 0 → k < 2 → Turning (c .before .before .region .result) s k
-rom-turns c s k o m p n =
-    let start = c .before .before .before in turning (start .args .layout) (start .pre) PrgRom _ (c .before .before .region .ensures) s k o m p n
+rom-turns : (c : tie.After-banks) (s k : ℕ) → s ≤ 16384 → 8192 * k + 8192 ≤ s → s % 1024 ≡ 0 → Turning (c .before .before .region .result) s k
+rom-turns c s k m i p =
+    let start = c .before .before .before in turning (start .args .layout) (start .pre) PrgRom _ (c .before .before .region .ensures) s k m i p
 
 ram-turns : (c : tie.After-banks) → Turning (c .before .region2 .result) 8192 0
 ram-turns c =
     let start = c .before .before .before in
-    turning (start .args .layout) (start .pre) PrgRam _ (c .before .region2 .ensures) 8192 0 (omega arith) (omega arith) refl (omega arith)
+    turning (start .args .layout) (start .pre) PrgRam _ (c .before .region2 .ensures) 8192 0 (omega arith) (omega arith) refl
 
 -- a run that shows nothing begins on the one page of its ring
-off : Begun unmappedRing
+off : Begun unmappedRingRun
 off = record { ring = record { some = omega arith; low = omega arith }; from = omega arith }
 
 region-requires : tie.Need-region-requires
@@ -52,7 +52,7 @@ cast-window-ring : tie.Need-cast-window-ring
 cast-window-ring c = number (c .before) _
 
 window-ring-requires : tie.Need-window-ring-requires
-window-ring-requires c κs = rom-turns (c .before) _ _ (omega arith) (omega arith) refl (omega arith)
+window-ring-requires c κs = rom-turns (c .before) _ _ (omega arith) (omega arith) refl
 
 array-read-window-ring-2 : tie.Need-array-read-window-ring-2
 array-read-window-ring-2 c = search needs
@@ -61,7 +61,7 @@ cast-window-ring-2 : tie.Need-cast-window-ring-2
 cast-window-ring-2 c = number (c .before .before) _
 
 window-ring-requires-2 : tie.Need-window-ring-requires-2
-window-ring-requires-2 c κs = rom-turns (c .before .before) _ _ (omega arith) (omega arith) refl (omega arith)
+window-ring-requires-2 c κs = rom-turns (c .before .before) _ _ (omega arith) (omega arith) refl
 
 array-read-window-ring-3 : tie.Need-array-read-window-ring-3
 array-read-window-ring-3 c = search needs
@@ -70,10 +70,10 @@ cast-window-ring-3 : tie.Need-cast-window-ring-3
 cast-window-ring-3 c = number (c .before .before .before) _
 
 window-ring-requires-3 : tie.Need-window-ring-requires-3
-window-ring-requires-3 c κs = rom-turns (c .before .before .before) _ _ (omega arith) (omega arith) refl (omega arith)
+window-ring-requires-3 c κs = rom-turns (c .before .before .before) _ _ (omega arith) (omega arith) refl
 
 window-ring-requires-4 : tie.Need-window-ring-requires-4
-window-ring-requires-4 c κs = rom-turns (c .before .before .before .before) _ _ (omega arith) (omega arith) refl (omega arith)
+window-ring-requires-4 c κs = rom-turns (c .before .before .before .before) _ _ (omega arith) (omega arith) refl
 
 ring-table-requires : tie.Need-ring-table-requires
 ring-table-requires c κs =
@@ -90,7 +90,7 @@ returns c =
     let d = c .before .before .before .before .before .before in
     let start = d .before .before .before in
     let runs =
-    unmappedRing ∷ unmappedRing ∷ unmappedRing ∷ c .before .before .before .before .before .ram-ring .result
+    unmappedRingRun ∷ unmappedRingRun ∷ unmappedRingRun ∷ c .before .before .before .before .before .ram-ring .result
     ∷ c .before .before .before .before .window-ring .result ∷ c .before .before .before .window-ring2 .result
     ∷ c .before .before .window-ring3 .result ∷ c .before .window-ring4 .result ∷ [] in
     joined (start .args .layout) (start .args .banking) (turns runs) (c .ring-table .ensures) refl

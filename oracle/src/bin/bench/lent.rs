@@ -7,7 +7,7 @@ use tetanes_shim::{
     rig::{Rig, Setup},
 };
 
-/// Room for a board, whose fields no host needs to know.
+/// Room for a board. Of its fields the bench knows only where the tables lie.
 #[repr(C, align(8))]
 pub struct Board(pub [u8; 1024]);
 impl Board {

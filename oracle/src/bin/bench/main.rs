@@ -23,10 +23,10 @@ fn times(row: &Row, calls: u32) -> [(f64, f64); FORMS] {
     let mut h = Hosts::of(row);
     let mut t = [const { Vec::new() }; FORMS];
     for _ in 0..RUNS {
-        for (run, t) in row.runs.iter().zip(&mut t) {
+        for (form, run) in row.runs.iter().enumerate() {
             let began = Instant::now();
-            run(&mut h, calls);
-            t.push(began.elapsed().as_nanos() as f64 / f64::from(calls));
+            run(&mut h, if measured(form) { calls } else { 0 });
+            t[form].push(began.elapsed().as_nanos() as f64 / f64::from(calls));
         }
     }
     t.map(|mut t| {
@@ -57,7 +57,12 @@ fn instructions(row: usize, form: usize, n: u32) -> f64 {
 
 /// The row that `count` names: those of the table, then the frame.
 fn row(i: usize) -> &'static Row {
-    ROWS.get(i).unwrap_or(&FRAME)
+    if i == ROWS.len() { &FRAME } else { &ROWS[i] }
+}
+
+/// Without another archive the form before is this tree's again, and is not measured.
+fn measured(form: usize) -> bool {
+    form != BEFORE || cfg!(feature = "before")
 }
 
 /// A loop by itself, and with an empty call in it: instructions, and least ns.
@@ -86,8 +91,7 @@ const PRINTED: [usize; 4] = [RUST, CHECKED, LENT, BEFORE];
 impl Figures {
     /// Without what the loop by itself takes in instructions.
     fn of(i: usize, t: [(f64, f64); FORMS], alone: f64, counted: u32) -> Self {
-        // An archive that was not given costs no time.
-        let counts = PRINTED.map(|f| if f == BEFORE && !cfg!(feature = "before") { 0.0 } else { instructions(i, f, counted) - alone });
+        let counts = PRINTED.map(|f| if measured(f) { instructions(i, f, counted) - alone } else { 0.0 });
         Figures { name: row(i).name, instructions: counts, least: PRINTED.map(|f| t[f].0), median: PRINTED.map(|f| t[f].1) }
     }
     fn three(of: [f64; 4]) -> [f64; 3] {

@@ -4,7 +4,7 @@ use mathlib.Core.Path.{_≡_, refl, ap, subst, _∙_}
 use native.Mathlib.Omega.{arith}
 use borrow.Author.Needs.{needs}
 use Rattle.memory_pages.specs.Pages.{pagesOn}
-use Rattle.memory_rule.specs.Required.{ringAt}
+use Rattle.memory_rule.specs.Required.{ringRunAt}
 use Rattle.memory_rule.proofs.Filling.{Here, Stored, here-first, here-next, stored-next, stored-run, stored-all, turns}
 use Rattle.memory_rule.proofs.rings.ring_table.Statement.{statement}
 use Rattle.memory_rule.proofs.rings.ring_table.Tie as tie
@@ -72,7 +72,7 @@ loop2-again c =
     let runs = c .before .before .before .before .before .before .before .args .t1 in (
       omega arith,
       stored-next (turns runs) (m .pages) (l .k) (m .i) _ (omega arith) (omega arith) (m .inv .1)
-          (c .before .pages-on .ensures ∙ ap (pagesOn (ringAt runs (l .k) .ring .first)) (m .inv .2 .0)),
+          (c .before .pages-on .ensures ∙ ap (pagesOn (ringRunAt runs (l .k) .ring .first)) (m .inv .2 .0)),
       here-next runs (l .k) (m .i) (m .at) _ (m .inv .2) (c .behind .ensures),
     )
 

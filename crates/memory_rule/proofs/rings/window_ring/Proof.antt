@@ -1,11 +1,8 @@
 -- `window_ring` meets its contract: the window goes round from the page at which its bank begins. Assumes nothing.
 use mathlib.Core.Path.{_≡_, sym, ap, ap₂, subst, _∙_}
-use mathlib.Core.List.{List}
 use Prim.Native.Nat.{ℕ, _+_, _*_, _/_, _%_}
 use native.Mathlib.Omega.{arith}
 use mir.Facts.{toZ-ofZ}
-use lib.IntN.{ℤ}
-use Rattle.memory_pages.specs.declared.page.Page.{Page}
 use Rattle.memory_rule.specs.declared.rings.PageRing.{PageRing}
 use Rattle.memory_rule.specs.declared.rings.RingRun.{RingRun}
 use Rattle.memory_rule.specs.Rule.{bankCount, base}
