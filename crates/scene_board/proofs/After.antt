@@ -15,7 +15,7 @@ use Rattle.scene_board.specs.Played.{callsOf, stepCalls}
 
 -- ---- lists of calls
 -- two lists joined, and one after the other
-joined : (ks js : List Call) (x : State) → after x (ks ++ js) ≡ after (after x ks) js
+pub joined : (ks js : List Call) (x : State) → after x (ks ++ js) ≡ after (after x ks) js
 joined [] js x = refl
 joined (k ∷ ks) js x = joined ks js (next x k)
 

@@ -13,13 +13,18 @@ use Rattle.scene_board.specs.declared.ended.Ended.{Ended}
 use Rattle.scene_board.specs.Ended.{doneState, endIn, endOf, slotsShown, writtenState}
 use Rattle.scene_board.specs.Played.{callsOf}
 
+-- the state at the end of the writes
+pub written-at : (l : MemoryLayout) (s : NumberedSettings) (f c ws : List ℕ) (created : Created) → created ≡ createdBy l s f c → (written : Board) (c₁ : List ℕ)
+    → heldBy written f c₁ ≡ after (heldBy (created .board) f c) (callsOf ws) → heldBy written f c₁ ≡ writtenState l s f c ws
+written-at l s f c ws created made written c₁ first = first ∙ ap (λ (k : Created). after (heldBy (k .board) f c) (callsOf ws)) made
+
 module _ (l : MemoryLayout) (s : NumberedSettings) (f c ws ms : List ℕ) where
   module _ (created : Created) (made : created ≡ createdBy l s f c) (written done : Board) (c₁ c₂ : List ℕ)
       (first : heldBy written f c₁ ≡ after (heldBy (created .board) f c) (callsOf ws))
       (second : heldBy done f c₂ ≡ after (heldBy written f c₁) (callsOf ms)) where
     -- the state at the end of the writes, and the one behind the menu
     at-end : heldBy written f c₁ ≡ writtenState l s f c ws
-    at-end = first ∙ ap (λ (k : Created). after (heldBy (k .board) f c) (callsOf ws)) made
+    at-end = written-at l s f c ws created made written c₁ first
 
     behind : heldBy done f c₂ ≡ doneState l s f c ws ms
     behind = second ∙ ap (λ (x : State). after x (callsOf ms)) at-end

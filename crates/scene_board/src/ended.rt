@@ -18,7 +18,7 @@ pub struct Ended {
 }
 
 // The banks that the first eight entries of the picture side show.
-fn slots_shown(layout: MemoryLayout, pages: [Page; 16]) -> [u32; 8]
+pub(crate) fn slots_shown(layout: MemoryLayout, pages: [Page; 16]) -> [u32; 8]
     ensures { λ r. ⌜ r ≡ slotsShown layout pages ⌝ }
 {
     [

@@ -1,5 +1,6 @@
 // The steps of a sheet, played on a board.
 pub mod ended;
+pub mod inside;
 
 use scene_steps::Step;
 use scene_steps::step::step_coded;
@@ -37,7 +38,7 @@ fn clocks(given: Board, fixed: &[u8], changing: &mut [u8], n: u32) -> Board
 }
 
 // A step, given as its number. What is no step plays nothing.
-fn play_step(board: Board, fixed: &[u8], changing: &mut [u8], code: u32) -> Board
+pub(crate) fn play_step(board: Board, fixed: &[u8], changing: &mut [u8], code: u32) -> Board
     ensures { λ r. ⌜ heldBy r (now (fixed .entry)) (now (changing .exit))
         ≡ after (heldBy board (now (fixed .entry)) (now (changing .entry))) (stepCalls (stepCoded code)) ⌝ }
 {

@@ -6,11 +6,11 @@ use Prim.Native.Nat.{ℕ, _+_, _-_, _≤_, _<_}
 use native.Mathlib.Omega.{arith}
 use borrow.Author.Tests.{ne-eqb}
 use lib.ListN.{length, take, drop, getD, length-drop, drop-of-length-le}
-use lib.Seq.{drop-length}
+use lib.Seq.{drop-length, length-take-le}
 use Rattle.scene_cells.specs.declared.Cell.{Cell}
-use Rattle.scene_cells.specs.Cells.{Content, bare, cellOf, closedTo, endsRow, fromBreak, fromQuote, plainCell, plainTo, quotedCell, quotedTo, wrongBehind}
+use Rattle.scene_cells.specs.Cells.{Content, cellOf, closedTo, endsRow, fromBreak, fromQuote, plainCell, plainTo, quotedCell, quotedTo, wrongBehind}
 use Rattle.scene_cells.specs.Marks.{PlaceOf, before}
-use Rattle.scene_cells.specs.Places.{Bare, Behind, CellAt}
+use Rattle.scene_cells.specs.Places.{Behind, CellAt}
 use Rattle.scene_cells.proofs.Spans.{between, from-byte, onward}
 
 same-content : {b b' r r' : List ℕ} {q l l' : Bool} {w w' : ℕ} → b ≡ b' → r ≡ r' → l ≡ l' → w ≡ w'
@@ -19,28 +19,22 @@ same-content : {b b' r r' : List ℕ} {q l l' : Bool} {w w' : ℕ} → b ≡ b' 
     (record { bytes = b'; rest = r'; quoted = q; last = l'; wrong = w' })
 same-content e f g h = cc
 
-module _ (text : List ℕ) (at next : ℕ) (n : Behind text at next) where
-  one-on : length text - next ≡ length text - at - 1
-  one-on = sym (length-drop next text) ∙ ap length (n .rest) ∙ length-drop 1 (drop at text) ∙ ap (λ (k : ℕ). k - 1) (length-drop at text)
-
-module _ (text : List ℕ) (start : ℕ) where
-  pub plain : (stop to next : ℕ) (last : Bool) → PlaceOf fromBreak text start stop → Bare text start stop to → Behind text stop next → last ≡ endsRow (drop stop text)
-      → CellAt text start (plainCell (drop start text)) (record { from = start; to = to; next = next; quoted = false; last = last; wrong = 0 })
+module _ (text : List ℕ) (separator start : ℕ) where
+  pub plain : (stop next : ℕ) (last : Bool) → PlaceOf (fromBreak separator) text start stop → Behind text stop next → last ≡ endsRow (drop stop text)
+      → CellAt text start (plainCell separator (drop start text)) (record { from = start; to = stop; next = next; quoted = false; last = last; wrong = 0 })
   unfolding plainCell
-  plain stop to next last p b n l = record {
-    order = b .order;
-    within = omega (arith, b .within, p .within);
+  plain stop next last p n l = record {
+    order = p .behind;
+    within = p .within;
     next-within = n .within;
-    past = λ k. omega (arith, p .behind, p .within, n .within, one-on text stop next n);
+    past = λ k. omega (arith, p .behind, p .within, n .past);
     holds =
-        same-content
-        (b .bytes ∙ ap (λ (x : List ℕ). bare x (drop stop text)) (between text start stop (p .behind) (p .within)))
-        (n .rest) l refl
+        same-content (between text start stop (p .behind) (p .within)) (n .rest) l refl
         ∙ ap (plainTo (drop start text)) (p .rest);
   }
 
   module _ (close : ℕ) (p : PlaceOf fromQuote text (start + 1) close) where
-    pub unclosed : close ≡ length text → CellAt text start (quotedCell (drop (start + 1) text)) (record { from = start + 1; to = close; next = close; quoted = true; last = true; wrong = 1 })
+    pub unclosed : close ≡ length text → CellAt text start (quotedCell separator (drop (start + 1) text)) (record { from = start + 1; to = close; next = close; quoted = true; last = true; wrong = 1 })
     unfolding quotedCell
     unclosed e =
         let none : drop close text ≡ [] = ap (λ (i : ℕ). drop i text) e ∙ drop-length text in
@@ -51,29 +45,32 @@ module _ (text : List ℕ) (start : ℕ) where
           past = λ k. omega (arith, p .behind);
           holds =
               same-content (ap (λ (i : ℕ). take (i - (start + 1)) (drop (start + 1) text)) e ∙ onward text (start + 1)) none refl refl
-              ∙ ap (quotedTo (drop (start + 1) text)) (sym none ∙ p .rest);
+              ∙ ap (quotedTo separator (drop (start + 1) text)) (sym none ∙ p .rest);
         }
 
     module _ (n : close ≡ length text → ⊥) where
       inside : close < length text
       inside = omega (arith, n, p .within)
 
-      pub closed-at : (stop next : ℕ) (last : Bool) (wrong : ℕ) → PlaceOf fromBreak text (close + 1) stop → Behind text stop next → last ≡ endsRow (drop stop text)
-          → wrong ≡ wrongBehind (take (stop - (close + 1)) (drop (close + 1) text)) (drop stop text)
-          → CellAt text start (quotedCell (drop (start + 1) text)) (record { from = start + 1; to = close; next = next; quoted = true; last = last; wrong = wrong })
+      size : (stop : ℕ) → close + 1 ≤ stop → stop ≤ length text → length (take (stop - (close + 1)) (drop (close + 1) text)) ≡ stop - (close + 1)
+      size stop h k = length-take-le (stop - (close + 1)) (drop (close + 1) text) (omega (arith, length-drop (close + 1) text))
+
+      pub closed-at : (stop next : ℕ) (last : Bool) (wrong : ℕ) → PlaceOf (fromBreak separator) text (close + 1) stop → Behind text stop next → last ≡ endsRow (drop stop text)
+          → wrong ≡ wrongBehind (stop - (close + 1))
+          → CellAt text start (quotedCell separator (drop (start + 1) text)) (record { from = start + 1; to = close; next = next; quoted = true; last = last; wrong = wrong })
       unfolding quotedCell
       closed-at stop next last wrong s m l w = record {
         order = p .behind;
         within = p .within;
         next-within = m .within;
-        past = λ k. omega (arith, p .behind, s .behind, s .within, m .within, one-on text stop next m);
+        past = λ k. omega (arith, p .behind, s .behind, s .within, m .past);
         holds =
             same-content
             (between text (start + 1) close (p .behind) (p .within) ∙ ap (before (drop (start + 1) text)) (from-byte text close inside))
             (m .rest) l
-            (w ∙ ap (λ (x : List ℕ). wrongBehind x (drop stop text)) (between text (close + 1) stop (s .behind) (s .within)))
+            (w ∙ ap wrongBehind (sym (size stop (s .behind) (s .within)) ∙ ap length (between text (close + 1) stop (s .behind) (s .within))))
             ∙ ap (closedTo (before (drop (start + 1) text) (getD text close 0 ∷ drop (close + 1) text)) (drop (close + 1) text)) (s .rest)
-            ∙ ap (quotedTo (drop (start + 1) text)) (sym (from-byte text close inside) ∙ p .rest);
+            ∙ ap (quotedTo separator (drop (start + 1) text)) (sym (from-byte text close inside) ∙ p .rest);
       }
 
   module _ (cell : Cell) where
@@ -81,20 +78,20 @@ module _ (text : List ℕ) (start : ℕ) where
     shown e h = subst (λ (z : Content). CellAt text start z cell) e h
 
     module _ (k : start < length text) where
-      pub quoted-at : getD text start 0 ≡ 34 → CellAt text start (quotedCell (drop (start + 1) text)) cell → CellAt text start (cellOf (drop start text)) cell
-      quoted-at q h = shown (sym (ap cellOf (from-byte text start k ∙ ap (λ (b : ℕ). b ∷ drop (start + 1) text) q))) h
+      pub quoted-at : getD text start 0 ≡ 34 → CellAt text start (quotedCell separator (drop (start + 1) text)) cell → CellAt text start (cellOf separator (drop start text)) cell
+      quoted-at q h = shown (sym (ap (cellOf separator) (from-byte text start k ∙ ap (λ (b : ℕ). b ∷ drop (start + 1) text) q))) h
 
-      pub plain-at : (getD text start 0 ≡ 34 → ⊥) → CellAt text start (plainCell (drop start text)) cell → CellAt text start (cellOf (drop start text)) cell
+      pub plain-at : (getD text start 0 ≡ 34 → ⊥) → CellAt text start (plainCell separator (drop start text)) cell → CellAt text start (cellOf separator (drop start text)) cell
       plain-at n h =
           shown
-          (ap plainCell (from-byte text start k)
+          (ap (plainCell separator) (from-byte text start k)
           ∙ sym
-          (ap cellOf (from-byte text start k)
-          ∙ ap (λ (t : Bool). cond t (quotedCell (drop (start + 1) text)) (plainCell (getD text start 0 ∷ drop (start + 1) text))) (ne-eqb (getD text start 0) 34 n)))
+          (ap (cellOf separator) (from-byte text start k)
+          ∙ ap (λ (t : Bool). cond t (quotedCell separator (drop (start + 1) text)) (plainCell separator (getD text start 0 ∷ drop (start + 1) text))) (ne-eqb (getD text start 0) 34 n)))
           h
 
   pub at-end : length text ≤ start
-      → CellAt text start (cellOf (drop start text)) (record { from = length text; to = length text; next = length text; quoted = false; last = true; wrong = 0 })
+      → CellAt text start (cellOf separator (drop start text)) (record { from = length text; to = length text; next = length text; quoted = false; last = true; wrong = 0 })
   unfolding plainCell
   at-end h =
       let gone : drop start text ≡ [] = drop-of-length-le text h in
@@ -106,5 +103,5 @@ module _ (text : List ℕ) (start : ℕ) where
         past = λ k. absurd (omega arith);
         holds =
             same-content (ap (λ (i : ℕ). take i (drop (length text) text)) none) (drop-length text) refl refl
-            ∙ sym (ap cellOf gone);
+            ∙ sym (ap (cellOf separator) gone);
       }

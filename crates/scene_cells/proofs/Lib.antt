@@ -3,5 +3,7 @@ pub mod Held
 pub mod Quotes
 pub mod RoundTrip
 pub mod Rows
+pub mod Separating
+pub mod Spacing
 pub mod Spans
 pub mod Walking

@@ -2,11 +2,12 @@
 use mathlib.Core.List.{List}
 use Prim.Native.Nat.{ℕ}
 use Rattle.text_words.specs.Names.{codes, placeIn}
+use Rattle.text_words.specs.Words.{onlyWord}
 
--- the names of the columns
+-- the names of the columns (docs/SCENES.md)
 abbrev pub columns : List ℕ
-columns = codes "scene prg chr revision mirroring writes window letters menu file"
+columns = codes "scene prg chr revision mirroring writes window letters menu file at interrupts"
 
--- the column of a name: its place, 10 for another name
+-- the column that a cell names by its only word: the name's place, 12 for none (docs/SCENES.md)
 abbrev pub columnOf : List ℕ → ℕ
-columnOf name = placeIn columns name
+columnOf cell = placeIn columns (onlyWord cell)

@@ -5,3 +5,5 @@ pub mod Laws
 pub mod Marks
 pub mod Places
 pub mod Rows
+pub mod Separators
+pub mod Spaces

@@ -1,5 +1,6 @@
 // The columns of a sheet, by the names in its first row.
 use text_words::names::place_in;
+use text_words::only_word;
 ghost use mathlib.Core.Path.{_≡_};
 ghost use Rattle.scene_cells.specs.Columns.{columnOf};
 
@@ -23,14 +24,21 @@ pub const MENU: u8 = 8;
 
 pub const FILE: u8 = 9;
 
-pub const NO_COLUMN: u8 = 10;
+pub const AT: u8 = 10;
 
-// The column that a cell of the first row names.
-pub fn column_of(name: &[u8]) -> u8
-    ensures { λ r. ⌜ r ≡ columnOf (now (name .entry)) ⌝ }
+pub const INTERRUPTS: u8 = 11;
+
+pub const NO_COLUMN: u8 = 12;
+
+// The column that a cell of the first row names by its only word.
+pub fn column_of(cell: &[u8]) -> u8
+    ensures { λ r. ⌜ r ≡ columnOf (now (cell .entry)) ⌝ }
 {
+    let word = only_word(cell);
+    let from = word.from;
+    let to = word.to;
     place_in(
-        b"scene prg chr revision mirroring writes window letters menu file",
-        name,
+        b"scene prg chr revision mirroring writes window letters menu file at interrupts",
+        &cell[from..to],
     ) as u8
 }

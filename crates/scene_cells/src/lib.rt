@@ -1,16 +1,18 @@
-// The cells of a row, as spreadsheets export them (RFC 4180): commas between them, a line feed behind the last, with or
-// without a carriage return. A cell in quotes may hold commas and line ends, and a doubled quote for each quote.
+// The cells of a row, as spreadsheets export them (RFC 4180): a separator between them, and behind the last a line feed, a
+// carriage return or both. A cell in quotes may hold separators and line ends, and a doubled quote for each quote.
 pub mod choices;
 pub mod columns;
 pub mod lookup;
 pub mod marks;
+pub mod separators;
+pub mod spaces;
 
 ghost use mathlib.Core.Path.{_≡_};
 ghost use Prim.Native.Nat.{_≤_, _<_, _+_, _-_};
-ghost use lib.ListN.{drop, length, take};
+ghost use lib.ListN.{drop, getD, length};
 ghost use Rattle.scene_cells.specs.Cells.{cellOf, endsRow, fromBreak, fromQuote, plainCell, quotedCell, wrongBehind};
 ghost use Rattle.scene_cells.specs.Marks.{PlaceOf};
-ghost use Rattle.scene_cells.specs.Places.{Bare, Behind, CellAt, Passing};
+ghost use Rattle.scene_cells.specs.Places.{Behind, CellAt, Passing};
 
 // What is wrong with a cell.
 pub const UNCLOSED: u8 = 1;
@@ -27,14 +29,14 @@ pub struct Cell {
     pub wrong: u8,
 }
 
-// The first comma or line feed from `from` on; the text's end where there is none.
-fn break_from(text: &[u8], from: usize) -> usize
+// The first separator or line end from `from` on; the text's end where there is none.
+fn break_from(text: &[u8], from: usize, separator: u8) -> usize
     requires { ⌜ from ≤ length (now text) ⌝ }
-    ensures { λ r. ⌜ PlaceOf fromBreak (now (text .entry)) from r ⌝ }
+    ensures { λ r. ⌜ PlaceOf (fromBreak separator) (now (text .entry)) from r ⌝ }
 {
     let mut i = from;
     while i < text.len() {
-        if (text[i] == b',') | (text[i] == b'\n') {
+        if (text[i] == separator) | ((text[i] == b'\n') | (text[i] == b'\r')) {
             return i;
         }
         i += 1;
@@ -75,60 +77,59 @@ fn closing_quote(text: &[u8], from: usize) -> usize
     i
 }
 
-// A row's end: the text's, or a line feed.
-fn ends_row(text: &[u8], at: usize) -> bool
+// A row's end: the text's, a line feed or a carriage return.
+pub(crate) fn ends_row(text: &[u8], at: usize) -> bool
     ensures { λ r. ⌜ r ≡ endsRow (drop at (now (text .entry))) ⌝ }
 {
     if at < text.len() {
-        return text[at] == b'\n';
+        return (text[at] == b'\n') | (text[at] == b'\r');
     }
     true
 }
 
-// Where the bytes between two places end: a carriage return before a row's end is not among them.
-fn without_return(text: &[u8], from: usize, to: usize) -> usize
-    requires { ⌜ (from ≤ to) × (to ≤ length (now text)) ⌝ }
-    ensures { λ r. ⌜ Bare (now (text .entry)) from to r ⌝ }
+// A byte of the text; 0 behind its end.
+fn byte_at(text: &[u8], at: usize) -> u8
+    ensures { λ r. ⌜ r ≡ getD (now (text .entry)) at 0 ⌝ }
 {
-    if from == to {
-        return to;
+    if at < text.len() {
+        return text[at];
     }
-    if ends_row(text, to) & (text[to - 1] == b'\r') {
-        return to - 1;
-    }
-    to
+    0
 }
 
-// The place behind a comma or a line feed; the text's end where there is none.
-fn after(text: &[u8], at: usize) -> usize
+// The place behind a separator or a line end, and behind both bytes of CR LF; the text's end where there is none.
+pub(crate) fn after(text: &[u8], at: usize) -> usize
     requires { ⌜ at ≤ length (now text) ⌝ }
     ensures { λ r. ⌜ Behind (now (text .entry)) at r ⌝ }
 {
-    if at < text.len() {
-        return at + 1;
+    if at == text.len() {
+        return at;
     }
-    at
+    let next = at + 1;
+    if (text[at] == b'\r') & (byte_at(text, next) == b'\n') {
+        return next + 1;
+    }
+    next
 }
 
-// What is wrong with the bytes between the closing quote and the next comma or row's end.
-fn wrong_behind(text: &[u8], from: usize, to: usize) -> u8
-    requires { ⌜ (from ≤ to) × (to ≤ length (now text)) ⌝ }
-    ensures { λ r. ⌜ r ≡ wrongBehind (take (to - from) (drop from (now (text .entry)))) (drop to (now (text .entry))) ⌝ }
+// What is wrong with the bytes between the closing quote and the next separator or line end.
+fn wrong_behind(from: usize, to: usize) -> u8
+    requires { ⌜ from ≤ to ⌝ }
+    ensures { λ r. ⌜ r ≡ wrongBehind (to - from) ⌝ }
 {
-    if without_return(text, from, to) == from {
+    if to - from == 0 {
         return 0;
     }
     BEHIND_QUOTE
 }
 
-fn plain_cell(text: &[u8], start: usize) -> Cell
+fn plain_cell(text: &[u8], start: usize, separator: u8) -> Cell
     requires { ⌜ start ≤ length (now text) ⌝ }
-    ensures { λ r. ⌜ CellAt (now (text .entry)) start (plainCell (drop start (now (text .entry)))) r ⌝ }
+    ensures { λ r. ⌜ CellAt (now (text .entry)) start (plainCell separator (drop start (now (text .entry)))) r ⌝ }
 {
-    let stop = break_from(text, start);
-    let to = without_return(text, start, stop);
-    let next = after(text, stop);
-    let last = ends_row(text, stop);
+    let to = break_from(text, start, separator);
+    let next = after(text, to);
+    let last = ends_row(text, to);
     Cell {
         from: start,
         to,
@@ -140,9 +141,9 @@ fn plain_cell(text: &[u8], start: usize) -> Cell
 }
 
 // A cell whose opening quote is at `start`.
-fn quoted_cell(text: &[u8], start: usize) -> Cell
+fn quoted_cell(text: &[u8], start: usize, separator: u8) -> Cell
     requires { ⌜ start < length (now text) ⌝ }
-    ensures { λ r. ⌜ CellAt (now (text .entry)) start (quotedCell (drop (start + 1) (now (text .entry)))) r ⌝ }
+    ensures { λ r. ⌜ CellAt (now (text .entry)) start (quotedCell separator (drop (start + 1) (now (text .entry)))) r ⌝ }
 {
     let from = start + 1;
     let close = closing_quote(text, from);
@@ -157,10 +158,10 @@ fn quoted_cell(text: &[u8], start: usize) -> Cell
         };
     }
     let behind = close + 1;
-    let stop = break_from(text, behind);
+    let stop = break_from(text, behind, separator);
     let next = after(text, stop);
     let last = ends_row(text, stop);
-    let wrong = wrong_behind(text, behind, stop);
+    let wrong = wrong_behind(behind, stop);
     Cell {
         from,
         to: close,
@@ -171,9 +172,9 @@ fn quoted_cell(text: &[u8], start: usize) -> Cell
     }
 }
 
-// The cell that starts at `start`.
-pub fn cell_at(text: &[u8], start: usize) -> Cell
-    ensures { λ r. ⌜ CellAt (now (text .entry)) start (cellOf (drop start (now (text .entry)))) r ⌝ }
+// The cell that starts at `start`, where `separator` stands between cells.
+pub fn cell_at(text: &[u8], start: usize, separator: u8) -> Cell
+    ensures { λ r. ⌜ CellAt (now (text .entry)) start (cellOf separator (drop start (now (text .entry)))) r ⌝ }
 {
     let end = text.len();
     if end <= start {
@@ -187,7 +188,7 @@ pub fn cell_at(text: &[u8], start: usize) -> Cell
         };
     }
     if text[start] == b'"' {
-        return quoted_cell(text, start);
+        return quoted_cell(text, start, separator);
     }
-    plain_cell(text, start)
+    plain_cell(text, start, separator)
 }

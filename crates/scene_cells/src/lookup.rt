@@ -25,30 +25,30 @@ fn no_cell(text: &[u8]) -> Cell
 }
 
 // The cell of the row at `row` that has k cells before it.
-pub fn nth_cell(text: &[u8], row: usize, k: usize) -> Cell
-    ensures { λ r. ⌜ HeldIn (now (text .entry)) (nthCell k (drop row (now (text .entry)))) r ⌝ }
+pub fn nth_cell(text: &[u8], row: usize, k: usize, separator: u8) -> Cell
+    ensures { λ r. ⌜ HeldIn (now (text .entry)) (nthCell separator k (drop row (now (text .entry)))) r ⌝ }
 {
     let mut at = row;
     let mut left = k;
     while left > 0 {
-        let cell = cell_at(text, at);
+        let cell = cell_at(text, at, separator);
         if cell.last {
             return no_cell(text);
         }
         at = cell.next;
         left -= 1;
     }
-    cell_at(text, at)
+    cell_at(text, at, separator)
 }
 
 // The first cell of the header at `header` with the name of a column.
-pub fn find_column(text: &[u8], header: usize, column: u8) -> Found
-    ensures { λ r. ⌜ FoundIn column (drop header (now (text .entry))) r ⌝ }
+pub fn find_column(text: &[u8], header: usize, column: u8, separator: u8) -> Found
+    ensures { λ r. ⌜ FoundIn separator column (drop header (now (text .entry))) r ⌝ }
 {
     let mut at = header;
     let mut k: usize = 0;
     loop {
-        let cell = cell_at(text, at);
+        let cell = cell_at(text, at, separator);
         let from = cell.from;
         let to = cell.to;
         if column_of(&text[from..to]) == column {
@@ -63,11 +63,11 @@ pub fn find_column(text: &[u8], header: usize, column: u8) -> Found
 }
 
 // The cell of the row at `row` in a column that the header at `header` names; an empty one where either lacks it.
-pub fn cell_under(text: &[u8], header: usize, row: usize, column: u8) -> Cell
-    ensures { λ r. ⌜ CellUnder (now (text .entry)) header row column r ⌝ }
+pub fn cell_under(text: &[u8], header: usize, row: usize, column: u8, separator: u8) -> Cell
+    ensures { λ r. ⌜ CellUnder (now (text .entry)) separator header row column r ⌝ }
 {
-    match find_column(text, header, column) {
-        Found::At(k) => nth_cell(text, row, k),
+    match find_column(text, header, column, separator) {
+        Found::At(k) => nth_cell(text, row, k, separator),
         Found::Missing => no_cell(text),
     }
 }

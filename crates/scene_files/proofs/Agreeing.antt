@@ -3,18 +3,35 @@ use mathlib.Core.Path.{_≡_, sym, ap, _∙_}
 use mathlib.Core.Bool.{Bool, true, false, cond, not, _&&_}
 use mathlib.Core.List.{List}
 use Prim.Native.Nat.{ℕ, _-_}
-use native.Mathlib.Omega.{arith}
 use borrow.Author.Tests.{eq-eqb, ne-eqb}
 use lib.Dec.{eqb}
-use lib.ListN.{length, take, drop, length-drop}
-use lib.Seq.{length-take-le}
+use lib.ListN.{take, drop}
 use Rattle.text_words.specs.declared.number.Number.{Number}
 use Rattle.text_words.specs.declared.number.Number.the-variants.{Value}
+use Rattle.text_words.specs.Numbers.{numberOf}
 use Rattle.text_words.specs.Places.{Found}
-use Rattle.text_words.specs.Words.{fromWord, pastWord, wordOf}
+use Rattle.text_words.specs.Words.{fromWord, isEmpty, pastWord, wordOf}
+use Rattle.text_words.proofs.Only.{a-word, no-word}
+use Rattle.scene_cells.specs.Choices.{interruptsOf, mirroringOf, revisionOf}
 use Rattle.scene_files.specs.declared.singles.Single.{Single}
 use Rattle.scene_files.specs.declared.singles.Single.the-variants as single
-use Rattle.scene_files.specs.Singles.{compared, isEmpty, singleOf, wordNumber}
+use Rattle.scene_files.specs.Singles.{choiceOf, compared, limitOf, singleOf, wordNumber}
+
+-- what a word says in a column
+module _ (column : ℕ) (word : List ℕ) where
+  pub of-revision : column ≡ 3 → choiceOf 2 (revisionOf word) ≡ wordNumber column word
+  of-revision e = rw (eq-eqb column 3 e)
+
+  module _ (r : column ≡ 3 → ⊥) where
+    pub of-mirroring : column ≡ 4 → choiceOf 5 (mirroringOf word) ≡ wordNumber column word
+    of-mirroring e = rw (ne-eqb column 3 r, eq-eqb column 4 e)
+
+    module _ (m : column ≡ 4 → ⊥) where
+      pub of-interrupts : column ≡ 11 → choiceOf 2 (interruptsOf word) ≡ wordNumber column word
+      of-interrupts e = rw (ne-eqb column 3 r, ne-eqb column 4 m, eq-eqb column 11 e)
+
+      pub of-number : (column ≡ 11 → ⊥) → numberOf 10 (limitOf column) word ≡ wordNumber column word
+      of-number i = rw (ne-eqb column 3 r, ne-eqb column 4 m, ne-eqb column 11 i)
 
 -- a value beside the file's
 module _ (fromFile : Bool) (said n : ℕ) (number : Number) (e : number ≡ Value n) where
@@ -23,17 +40,6 @@ module _ (fromFile : Bool) (said n : ℕ) (number : Number) (e : number ≡ Valu
 
   pub agrees : (fromFile && not (eqb n said)) ≡ false → single.Value n ≡ compared fromFile said number
   agrees h = sym (ap (compared fromFile said) e ∙ ap (λ (t : Bool). cond t single.NotTheFile (single.Value n)) h)
-
--- whether a text begins with a word, by the places of that word
-module _ (line text : List ℕ) (from to : ℕ) (f : Found line text from to) where
-  size : length (wordOf (fromWord text)) ≡ to - from
-  size = sym (ap length (f .word)) ∙ length-take-le (to - from) (drop from line) (omega (arith, f .within, length-drop from line))
-
-  no-word : from ≡ to → isEmpty text ≡ true
-  no-word e = eq-eqb (length (wordOf (fromWord text))) 0 (omega (arith, size))
-
-  a-word : (from ≡ to → ⊥) → isEmpty text ≡ false
-  a-word n = ne-eqb (length (wordOf (fromWord text))) 0 (λ z. n (omega (arith, size, f .order)))
 
 module _ (fromFile : Bool) (said column : ℕ) (cell : List ℕ) (from to : ℕ) (f : Found cell cell from to) where
   abbrev behind : List ℕ

@@ -10,11 +10,11 @@ use Rattle.text_words.specs.declared.number.Number.{Number}
 use Rattle.text_words.specs.declared.number.Number.the-variants as number
 use Rattle.text_words.specs.Names.{placeIn}
 use Rattle.text_words.specs.Numbers.{numberOf}
-use Rattle.text_words.specs.Words.{fromWord, pastWord, wordOf}
+use Rattle.text_words.specs.Words.{fromWord, isEmpty, pastWord, wordOf}
 use Rattle.scene_files.specs.declared.singles.Single.{Single}
 use Rattle.scene_files.specs.declared.singles.Single.the-variants.{Value, ManyWords, NotTheFile}
 use Rattle.scene_files.specs.Laws.{AgreedLaw, FileExamples}
-use Rattle.scene_files.specs.Singles.{compared, isEmpty, wordNumber}
+use Rattle.scene_files.specs.Singles.{compared, wordNumber}
 
 -- a value beside the file's is the file's
 same : (said m n : ℕ) → compared true said (number.Value m) ≡ Value n → n ≡ said
@@ -62,6 +62,10 @@ examples =
       letter = refl;
       other-letter = refl;
       no-letter = refl;
+      unsaid = refl;
+      masked = refl;
+      open-choice = refl;
+      no-choice = refl;
       large = refl;
       words = refl;
     }

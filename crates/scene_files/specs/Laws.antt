@@ -22,6 +22,11 @@ pub record FileExamples : Type 0 where
   pub letter : singleOf true 1 4 (codes "h") ≡ Value 1
   pub other-letter : singleOf true 1 4 (codes "V") ≡ NotTheFile
   pub no-letter : singleOf true 1 4 (codes "Q") ≡ NoValue
+  -- interrupts, which no file says
+  pub unsaid : singleOf false 0 11 (codes "") ≡ Value 0
+  pub masked : singleOf false 0 11 (codes "masked") ≡ Value 0
+  pub open-choice : singleOf false 0 11 (codes " Open ") ≡ Value 1
+  pub no-choice : singleOf false 0 11 (codes "1") ≡ NoValue
   -- faults that need no file
   pub large : singleOf false 131_072 2 (codes "262145") ≡ TooLarge
   pub words : singleOf false 131_072 2 (codes "8192 8192") ≡ ManyWords

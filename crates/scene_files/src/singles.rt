@@ -1,6 +1,8 @@
 // A cell of one word: what it says, and whether a file says otherwise.
+use scene_cells::choices::interrupts_of;
 use scene_cells::choices::mirroring_of;
 use scene_cells::choices::revision_of;
+use scene_cells::columns::INTERRUPTS;
 use scene_cells::columns::MIRRORING;
 use scene_cells::columns::REVISION;
 use scene_cells::columns::WINDOW;
@@ -12,7 +14,7 @@ ghost use Rattle.scene_files.specs.Singles.{choiceOf, compared, limitOf,
 
 pub enum Single {
     Value(u32),
-    // No number, or none of the letters.
+    // No number, or none of the words.
     NoValue,
     TooLarge,
     ManyWords,
@@ -20,7 +22,7 @@ pub enum Single {
     NotTheFile,
 }
 
-// A letter by its place among so many.
+// A word by its place among so many.
 fn choice_of(place: u8, count: u8) -> Number
     ensures { λ r. ⌜ r ≡ choiceOf count place ⌝ }
 {
@@ -49,6 +51,9 @@ fn word_number(word: &[u8], column: u8) -> Number
     }
     if column == MIRRORING {
         return choice_of(mirroring_of(word), 5);
+    }
+    if column == INTERRUPTS {
+        return choice_of(interrupts_of(word), 2);
     }
     in_base(word, 10, limit_of(column))
 }

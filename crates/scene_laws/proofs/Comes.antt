@@ -28,10 +28,11 @@ use Rattle.scene_steps.specs.declared.step.Step.the-variants.{Write, Clocks, Re
 use Rattle.scene_steps.specs.Steps.{stepCoded}
 use Rattle.scene_board.specs.Played.{stepCalls, callsOf}
 use Rattle.scene_laws.specs.Counter.{counterBy}
-use Rattle.scene_laws.specs.Rises.{ByteEvent, OfByte, Waits, cameAt, risesAt, callsAround}
-use Rattle.scene_laws.specs.Laws.{Comes, RiseLaw, SingleLaw, CameLaw}
+use Rattle.scene_laws.specs.Rises.{ByteEvent, Loss, LossFound, OfByte, Waits, callsAround, callsUpTo, cameAt, clearedAt, lossIn, risesAt}
+use Rattle.scene_laws.specs.Laws.{CameLaw, Comes, Loses, RiseLaw, SingleLaw}
 use Rattle.scene_laws.proofs.Boarded.{counter-law}
 use Rattle.scene_laws.proofs.Runs.{Fine, Ready, fine-clocked, fine-taken, fine-zero, taken-clear, ready-after, rises, quiet, quiet-due}
+use Rattle.scene_laws.proofs.Losses.{falls, loses, loss-told, quiet-loss}
 use Rattle.scene_laws.proofs.Walks.{told, found-same, count-joined, count-run}
 
 -- ---- only a clock sets pending
@@ -106,6 +107,22 @@ carried (k ∷ ks) x n h =
     ap (λ (r : Option ℕ). cond (next x k .board .irq .«irq_pending») (some t) r) (carried ks (next x k) t (h .1))
     ∙ ap₂ (λ (b : Bool) (q : VrcIrq). cond (q .«irq_pending») (some t) (rises b q ks t)) (law .revision) (law .counter)
 
+carried-fall : (ks : List Call) (x : State) (s n : ℕ) → Accepted x ks → clearedAt x ks s n ≡ falls (x .board .banking .«revision_b») (x .board .irq) ks s n
+carried-fall [] x s n h = refl
+carried-fall (k ∷ ks) x s n h =
+    let t = n + weight (event k) in
+    let law = counter-law x k (h .0) in
+    ap (λ (r : Option Loss). cond (next x k .board .irq .«irq_pending») r (some (record { set = s; cleared = t }))) (carried-fall ks (next x k) s t (h .1))
+    ∙ ap₂ (λ (b : Bool) (q : VrcIrq). cond (q .«irq_pending») (falls b q ks s t) (some (record { set = s; cleared = t }))) (law .revision) (law .counter)
+
+carried-loss : (ks : List Call) (x : State) (n : ℕ) → Accepted x ks → lossIn x ks n ≡ loses (x .board .banking .«revision_b») (x .board .irq) ks n
+carried-loss [] x n h = refl
+carried-loss (k ∷ ks) x n h =
+    let t = n + weight (event k) in
+    let law = counter-law x k (h .0) in
+    ap₂ (λ (r l : Option Loss). cond (next x k .board .irq .«irq_pending») r l) (carried-fall ks (next x k) t t (h .1)) (carried-loss ks (next x k) t (h .1))
+    ∙ ap₂ (λ (b : Bool) (q : VrcIrq). cond (q .«irq_pending») (falls b q ks t t) (loses b q ks t)) (law .revision) (law .counter)
+
 -- ---- a board that refuses no call of the run
 on-board : (x : State) (k : ℕ) (codes : List ℕ) (m : ℕ) → Accepted x (callsAround k codes m) → Fine (x .board .irq) → Waits (x .board .irq) k
     → k + clockCount (callsOf codes) + 100_000 < 2 ^ 32 → Comes x k codes m
@@ -121,6 +138,20 @@ on-board x k codes m h f w room =
     (carried (callsAround k codes m) x 0 h ∙ quiet b k q rest 0 ready still ∙ ap (rises b p rest) (zero-add k))
     (told b m codes p k (ready-after k q ready still) room)
 
+lost-on-board : (x : State) (k : ℕ) (codes : List ℕ) → Accepted x (callsUpTo k codes) → Fine (x .board .irq) → Waits (x .board .irq) k
+    → k + clockCount (callsOf codes) + 100_000 < 2 ^ 32 → Loses x k codes
+lost-on-board x k codes h f w room =
+    let b = x .board .banking .«revision_b» in
+    let q = x .board .irq in
+    let ready : Ready q = record { fine = f; clear = w .clear } in
+    let still = quiet-due q f k (w .not-yet) in
+    subst (LossFound (cameAt b q k codes))
+    (sym
+    (carried-loss (callsUpTo k codes) x 0 h
+    ∙ quiet-loss b k q (callsOf codes) 0 ready still
+    ∙ ap (loses b (irqClockedTimes lineStep lineLength k q) (callsOf codes)) (zero-add k)))
+    (loss-told b codes (irqClockedTimes lineStep lineLength k q) k (ready-after k q ready still) (omega arith))
+
 -- the counter of a new board
 pub first-fine : (c : Creation) → create c .refusal ≡ 0 → Fine (start c .board .irq)
 first-fine c h =
@@ -128,7 +159,14 @@ first-fine c h =
 
 pub came-law : CameLaw
 came-law c h ws o k w codes room m =
-    on-board (after (start c) ws) k codes m
-    (accepted-behind ws (start c) (callsAround k codes m) (demand3 c h (ws ++ callsAround k codes m) .accepted))
-    (fine-behind ws (start c) (demand3 c h ws .accepted) o (first-fine c h))
-    w room
+    let fine = fine-behind ws (start c) (demand3 c h ws .accepted) o (first-fine c h) in
+    record {
+      comes =
+          on-board (after (start c) ws) k codes m
+          (accepted-behind ws (start c) (callsAround k codes m) (demand3 c h (ws ++ callsAround k codes m) .accepted))
+          fine w room;
+      loses =
+          lost-on-board (after (start c) ws) k codes
+          (accepted-behind ws (start c) (callsUpTo k codes) (demand3 c h (ws ++ callsUpTo k codes) .accepted))
+          fine w room;
+    }

@@ -2,7 +2,7 @@
 use mathlib.Core.Path.{_≡_, refl, sym, ap, subst, _∙_}
 use mathlib.Core.Bool.{Bool, true, false, cond, false≢true}
 use mathlib.Core.Logic.{inl, inr, _↔_}
-use Prim.Native.Nat.{ℕ, _≤_}
+use Prim.Native.Nat.{ℕ, _+_, _-_, _*_, _/_, _≤_}
 use native.Mathlib.Omega.{arith}
 use lib.Dec.{eqb}
 use borrow.Author.Tests.{eqb-true, eqb-false, ne-eqb}
@@ -16,9 +16,10 @@ use Rattle.irq_clocks.specs.Clocks.{LeastClocks}
 use Rattle.irq_clocks.specs.Laws.{Exact}
 use Rattle.irq_clocks.proofs.Forecasts.{forecast-law}
 use Rattle.irq_clocks.proofs.Board.{short-forecast-law}
+use Rattle.scene_moments.specs.Lines.{lineOf}
 use Rattle.scene_moments.specs.Moments.{clocksDue, dueFrom}
 use Rattle.scene_moments.proofs.Waiting.{some-due}
-use Rattle.scene_laws.specs.Laws.{ClocksDueLaw}
+use Rattle.scene_laws.specs.Laws.{ClocksDueLaw, LineLaw}
 
 -- the clocks due of a counter that is enabled or not, by the formula f
 abbrev dueBy : Bool → (f : ℕ) → ℕ
@@ -56,3 +57,8 @@ clocks-due-law q low = record { least = least q low; never = never (q .enabled) 
     never : (b : Bool) → (dueBy b (forecastIn lineStep lineLength q) ≡ 0) ↔ (b ≡ false)
     never true = (λ h. absurd (omega (arith, some-due (forecastIn lineStep lineLength q), h)), λ h. absurd (false≢true (sym h)))
     never false = (λ h. refl, λ h. refl)
+
+-- ---- lines
+pub line-law : LineLaw
+unfolding lineOf
+line-law line c p low high = rw (ne-eqb p 0 (λ z. omega (arith, z))) (omega arith)

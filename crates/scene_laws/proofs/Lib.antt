@@ -1,6 +1,8 @@
 pub mod Boarded
 pub mod Comes
 pub mod Least
+pub mod Letters
+pub mod Losses
 pub mod Runs
 pub mod Scene
 pub mod Slots

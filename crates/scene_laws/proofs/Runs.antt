@@ -76,10 +76,10 @@ pub ready-zero : Ready irqZero
 ready-zero = record { fine = fine-zero; clear = refl }
 
 -- a clock leaves pending clear unless it sets it
-clocked-clear : (q : VrcIrq) → q .«irq_pending» ≡ false → irqSets lineStep q ≡ false → clockAnswer q .irq .«irq_pending» ≡ false
+pub clocked-clear : (q : VrcIrq) → q .«irq_pending» ≡ false → irqSets lineStep q ≡ false → clockAnswer q .irq .«irq_pending» ≡ false
 clocked-clear q h s = pending-law lineStep lineLength q ∙ ap₂ (λ (a b : Bool). a || b) s h
 
-ready-clocked : (q : VrcIrq) → Ready q → irqSets lineStep q ≡ false → Ready (clockAnswer q .irq)
+pub ready-clocked : (q : VrcIrq) → Ready q → irqSets lineStep q ≡ false → Ready (clockAnswer q .irq)
 ready-clocked q r s = record { fine = fine-clocked q (r .fine); clear = clocked-clear q (r .clear) s }
 
 -- none of n clocks sets pending
@@ -93,7 +93,7 @@ ready-after (suc n) q r h =
     ready-clocked (irqClockedTimes lineStep lineLength n q) (ready-after n q r (λ i l. h i (omega arith))) (h n (omega arith))
 
 -- a clock, then i
-shift : (i : ℕ) (q : VrcIrq) → irqClockedTimes lineStep lineLength i (clockAnswer q .irq) ≡ irqClockedTimes lineStep lineLength (suc i) q
+pub shift : (i : ℕ) (q : VrcIrq) → irqClockedTimes lineStep lineLength i (clockAnswer q .irq) ≡ irqClockedTimes lineStep lineLength (suc i) q
 unfolding times
 shift zero q = refl
 shift (suc i) q = ap (λ (s : VrcIrq). clockAnswer s .irq) (shift i q)

@@ -26,7 +26,7 @@ use Rattle.scene_board.specs.Played.{callsOf, stepCalls}
 use Rattle.scene_moments.specs.Moments.{clocksDue}
 use Rattle.scene_sweep.specs.Runs.{RunOf}
 use Rattle.scene_laws.specs.Rises.{OfByte}
-use Rattle.scene_laws.specs.Sweeps.{codesOf}
+use Rattle.scene_laws.specs.Sweeps.{HasVerdict, codesOf}
 use Rattle.scene_laws.specs.Scenes.{SceneLaw, SceneOf, endFrom, sceneWritten}
 use Rattle.scene_laws.proofs.Boarded.{counter-law}
 use Rattle.scene_laws.proofs.Comes.{Accepted}
@@ -90,11 +90,14 @@ scene-law c h ws ms =
       banks = refl;
       behind = refl;
       sweep =
-          λ clear few window from r run j low high m.
-          sweep-law c h (callsOf (codesOf ws)) (bytes (codesOf ws)) y refl clear ms few window from r
+          λ clear few screen window unmasked from r run j low high m.
+          subst
+          (λ (b : Bool). HasVerdict y j (codesOf ms) m (record { screen = screen; «revision_b» = b; window = window; unmasked = unmasked }) r)
+          (revised c h ws ms)
+          (sweep-law c h (callsOf (codesOf ws)) (bytes (codesOf ws)) y refl clear ms few screen window unmasked from r
           (subst
           (λ (b : Bool).
-          RunOf (record { prescaler = q .«prescalar_counter»; «revision_b» = b; window = window }) (codesOf ms) (irqClockedTimes lineStep lineLength from q) from (clocksDue q) r)
+          RunOf (record { screen = screen; «revision_b» = b; window = window; unmasked = unmasked }) (codesOf ms) (irqClockedTimes lineStep lineLength from q) from (clocksDue q) r)
           (sym (revised c h ws ms)) run)
-          j low high m;
+          j low high m);
     })

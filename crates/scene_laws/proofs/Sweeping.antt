@@ -1,5 +1,5 @@
 -- Each clock of a run has the run's verdict on the board. Assumes nothing.
-use mathlib.Core.Path.{_≡_, sym, subst}
+use mathlib.Core.Path.{_≡_, sym, ap, subst}
 use mathlib.Core.Bool.{false}
 use mathlib.Core.List.{List, [], _∷_}
 use Prim.Native.Nat.{ℕ, _*_, _≤_, _<_}
@@ -18,9 +18,13 @@ use Rattle.scene_steps.proofs.Codes.{code-law}
 use Rattle.scene_steps.proofs.Ranges.{said-law}
 use Rattle.scene_board.specs.Played.{callsOf, stepCalls}
 use Rattle.scene_moments.specs.Moments.{clocksDue}
-use Rattle.scene_sweep.proofs.Running.{in-sweep}
+use Rattle.irq.specs.Timing.{lineStep, lineLength}
+use Rattle.irq_clocks.specs.Clocks.{irqClockedTimes}
+use Rattle.scene_moments.specs.declared.verdict.Seen.{Seen}
+use Rattle.scene_sweep.specs.Runs.{seenFrom, seenIn}
+use Rattle.scene_sweep.proofs.Running.{in-sweep, in-whole}
 use Rattle.scene_laws.specs.Rises.{Waits, cameAt}
-use Rattle.scene_laws.specs.Laws.{Comes}
+use Rattle.scene_laws.specs.Laws.{CameOn}
 use Rattle.scene_laws.specs.Sweeps.{SweepLaw, codesOf, sweepFrom}
 use Rattle.scene_laws.proofs.Comes.{came-law, fine-behind, first-fine}
 use Rattle.scene_laws.proofs.Runs.{Fine, due-low}
@@ -54,15 +58,23 @@ waits-still q j clear h =
     record { clear = clear; not-yet = rw (ne-eqb (clocksDue q) 0 (λ z. omega arith), lt-leb (clocksDue q) j h) }
 
 pub sweep-law : SweepLaw
-sweep-law c h ws o x e clear words few window from r run j low high m =
+sweep-law c h ws o x e clear words few screen window unmasked from r run j low high m =
     let q = x .board .irq in
+    let s = sweepFrom x screen window unmasked in
     let fine : Fine q = subst (λ (y : State). Fine (y .board .irq)) (sym e) (fine-behind ws (start c) (demand3 c h ws .accepted) o (first-fine c h)) in
     let soon : j < clocksDue q = omega (arith, run .within) in
     let still : Waits (after (start c) ws .board .irq) j = subst (λ (y : State). Waits (y .board .irq) j) e (waits-still q j clear soon) in
+    let law : CameOn x j (codesOf words) m =
+    subst (λ (y : State). CameOn y j (codesOf words) m) (sym e)
+    (came-law c h ws o j still (codesOf words) (omega (arith, menu-waits words, due-low q fine)) m) in
+    let here : seenIn s (codesOf words) q j ≡ seenFrom s (codesOf words) (irqClockedTimes lineStep lineLength from q) from j = in-whole s (codesOf words) q from j low in
+    let set = ap (λ (y : Seen). y .set) here in
+    let cleared = ap (λ (y : Seen). y .cleared) here in
     record {
       came = cameAt (x .board .banking .«revision_b») q j (codesOf words);
-      found =
-          subst (λ (y : State). Comes y j (codesOf words) m) (sym e)
-          (came-law c h ws o j still (codesOf words) (omega (arith, menu-waits words, due-low q fine)) m);
-      verdict = in-sweep (sweepFrom x window) (codesOf words) q from (clocksDue q) r run j low high;
+      found = law .comes;
+      lost = law .loses;
+      verdict = in-sweep s (codesOf words) q from (clocksDue q) r run j low high;
+      set = (omega (arith, set, run .set .low j low high), omega (arith, set, run .set .high j low high));
+      cleared = (omega (arith, cleared, run .cleared .low j low high), omega (arith, cleared, run .cleared .high j low high));
     }

@@ -23,10 +23,10 @@ use Rattle.scene_steps.specs.declared.step.Step.the-variants.{Write, Clocks, Re
 use Rattle.scene_steps.specs.Steps.{stepCoded, stepFrom}
 use Rattle.scene_moments.specs.declared.moment.Moment.{Moment}
 use Rattle.scene_moments.specs.declared.moment.Came.{Came}
-use Rattle.scene_moments.specs.declared.moment.Came.the-variants.{Never, On}
+use Rattle.scene_moments.specs.declared.moment.Came.the-variants.{Never, On, Lost}
 use Rattle.scene_board.specs.Played.{callsOf, stepCalls}
 use Rattle.scene_laws.specs.Counter.{counterAfter}
-use Rattle.scene_moments.specs.Moments.{added, came, comingIn, clocksDue, dueWithin, ended, moment, menuPlayed, stepTaken, waited}
+use Rattle.scene_moments.specs.Moments.{added, came, clears, comingIn, clocksDue, dueWithin, ended, lostAt, menuPlayed, moment, pendingAt, stepPending, stepTaken, waited}
 use Rattle.scene_laws.specs.Rises.{RiseFound}
 use Rattle.scene_laws.proofs.Runs.{Ready, rises, quiet, sets-within, within, first-due, quiet-due, due-low, ready-after, ready-taken, ready-zero}
 
@@ -51,14 +51,33 @@ pub found-same : (a : Came) (n m : ℕ) (r s : Option ℕ) → m ≡ n → s ≡
 found-same a n m r s e f h = subst (λ (z : ℕ). RiseFound a z s) (sym e) (subst (λ (z : Option ℕ). RiseFound a n z) (sym f) h)
 
 -- sums that fit 32 bits
-not-over : (clock n : ℕ) → clock + n < 2 ^ 32 → added clock n ≡ clock + n
+pub not-over : (clock n : ℕ) → clock + n < 2 ^ 32 → added clock n ≡ clock + n
 not-over clock n h = mod-eq-of-lt h
 
--- once the interrupt has come, no step counts
-settled : (b : Bool) (codes : List ℕ) (m : Moment) → m .came ≡ true → menuPlayed b codes m ≡ m
-settled b [] m h = refl
-settled b (code ∷ codes) m h =
-    ap (λ (c : Bool). menuPlayed b codes (cond c m (stepTaken b (stepCoded code) m))) h ∙ settled b codes m h
+-- an interrupt that is lost stays lost
+pub stays-lost : (b : Bool) (codes : List ℕ) (m : Moment) → m .lost ≡ true → menuPlayed b codes m ≡ m
+stays-lost b [] m h = refl
+stays-lost b (code ∷ codes) m h =
+    ap (λ (c : Bool). menuPlayed b codes (cond c m (cond (m .came) (stepPending b (stepCoded code) m) (stepTaken b (stepCoded code) m)))) h
+    ∙ stays-lost b codes m h
+
+-- once it has come, no step moves the clock on which it was set
+module _ (n s : ℕ) (r : Option ℕ) (f : (s ≤ n → r ≡ some s) × (n < s → r ≡ none)) (b : Bool) where
+  cleared : (codes : List ℕ) (q : VrcIrq) (clock : ℕ) → RiseFound (ended (menuPlayed b codes (lostAt (pendingAt q clock s)))) n r
+  cleared codes q clock =
+      subst (λ (m : Moment). RiseFound (ended m) n r) (sym (stays-lost b codes (lostAt (pendingAt q clock s)) refl)) f
+
+  -- a step, where the steps behind it are told
+  held : (codes : List ℕ) (q : VrcIrq) (clock : ℕ) → ((t : ℕ) → RiseFound (ended (menuPlayed b codes (pendingAt q t s))) n r)
+      → (t : Step) → RiseFound (ended (menuPlayed b codes (stepPending b t (pendingAt q clock s)))) n r
+  held codes q clock again (Write a v) = tested (clears (decode b a)) (λ e. rw e (cleared codes q clock)) (λ e. rw e (again clock))
+  held codes q clock again (Clocks k) = again (added clock k)
+  held codes q clock again Reset = cleared codes q clock
+  held codes q clock again (Wrong k) = again clock
+
+  settled : (codes : List ℕ) (q : VrcIrq) (clock : ℕ) → RiseFound (ended (menuPlayed b codes (pendingAt q clock s))) n r
+  settled [] q clock = f
+  settled (code ∷ codes) q clock = held codes q clock (λ t. settled codes q t) (stepCoded code)
 
 -- a step that writes a byte
 abbrev pub ByteStep : Step → Type 0
@@ -145,19 +164,19 @@ module _ (b : Bool) (m : ℕ) where
       chosen c =
           ended
           (menuPlayed b codes
-          (cond c (record { irq = q; clock = added clock (clocksDue q); came = true }) (moment (irqClockedTimes lineStep lineLength n q) (added clock n))))
+          (cond c (pendingAt q (added clock n) (added clock (clocksDue q))) (moment (irqClockedTimes lineStep lineLength n q) (added clock n))))
 
       comes-within : dueWithin n (clocksDue q) ≡ true → Told (ended (menuPlayed b codes (waited n (moment q clock)))) q clock (replicate n Clock ++ callsOf codes)
       comes-within h =
           let low = within n (clocksDue q) h in
-          found-on (clock + clockCount (left (replicate n Clock ++ callsOf codes)))
-          (rises b q (left (replicate n Clock ++ callsOf codes)) clock)
-          (ended (menuPlayed b codes (waited n (moment q clock)))) (clock + clocksDue q)
-          (ap chosen h
-          ∙ ap ended (settled b codes (record { irq = q; clock = added clock (clocksDue q); came = true }) refl)
-          ∙ ap On (not-over clock (clocksDue q) (omega (arith, fits))))
-          (λ l. regroup ∙ sets-within b (clocksDue q) n q (left (callsOf codes)) clock r (first-due q (r .fine) n h) low)
-          (λ l. absurd (omega (arith, counted)))
+          let all = clock + clockCount (left (replicate n Clock ++ callsOf codes)) in
+          subst (λ (a : Came). Told a q clock (replicate n Clock ++ callsOf codes)) (sym (ap chosen h))
+          (settled all (added clock (clocksDue q)) (rises b q (left (replicate n Clock ++ callsOf codes)) clock)
+          (rw (not-over clock (clocksDue q) (omega (arith, fits))) (
+            λ l. regroup ∙ sets-within b (clocksDue q) n q (left (callsOf codes)) clock r (first-due q (r .fine) n h) low,
+            λ l. absurd (omega (arith, counted)),
+          ))
+          b codes q (added clock n))
 
       goes-by : dueWithin n (clocksDue q) ≡ false → Told (ended (menuPlayed b codes (waited n (moment q clock)))) q clock (replicate n Clock ++ callsOf codes)
       goes-by h =

@@ -13,11 +13,12 @@ use Rattle.vrc6.specs.Boards.{State, Creation}
 use Rattle.vrc6.specs.Calls.{create}
 use Rattle.vrc6_calls.specs.Lists.{given, refusalIn, next, after}
 use Rattle.vrc6_ledger.specs.Ledger.{event}
-use Rattle.vrc6_ledger.specs.Demand3.{weight, clockCount, start}
+use Rattle.vrc6_ledger.specs.Demand3.{weight, clockCount, start, stretchTicks}
 use Rattle.scene_board.specs.Played.{callsOf}
 use Rattle.scene_laws.specs.Counter.{counterAfter}
+use Rattle.scene_moments.specs.Lines.{lineOf, screenFrom}
 use Rattle.scene_moments.specs.Moments.{clocksDue}
-use Rattle.scene_laws.specs.Rises.{OfByte, Waits, RiseFound, cameAt, risesAt, callsAround}
+use Rattle.scene_laws.specs.Rises.{LossFound, OfByte, Waits, RiseFound, callsAround, callsUpTo, cameAt, lossIn, risesAt}
 
 -- ---- the counter alone
 -- the clocks due of a counter
@@ -30,6 +31,10 @@ pub record Due (q : VrcIrq) : Type 0 where
 -- the same for every counter that is a byte
 abbrev pub ClocksDueLaw : Type 0
 ClocksDueLaw = (q : VrcIrq) → q .counter ≤ 255 → Due q
+
+-- where no dot is given, the line of a clock is the count of ticks that a stretch of so many clocks reports, in demand 3's formula (00, 3)
+abbrev pub LineLaw : Type 0
+LineLaw = (line c p : ℕ) → 1 ≤ p → p ≤ 341 → lineOf (screenFrom line p) c ≡ line + stretchTicks c p
 
 -- ---- the counter on the board
 -- a call's next counter comes from the counter, the revision and the call alone, and the revision stays
@@ -58,9 +63,18 @@ abbrev pub Comes : (x : State) (k : ℕ) (codes : List ℕ) (m : ℕ) → Type 0
 Comes x k codes m =
     RiseFound (cameAt (x .board .banking .«revision_b») (x .board .irq) k codes) (clockCount (callsAround k codes m)) (risesAt x (callsAround k codes m) 0)
 
+-- and if the handler clears it, then by the call and on the clock that the sweep reports; else no call of the handler does
+abbrev pub Loses : (x : State) (k : ℕ) (codes : List ℕ) → Type 0
+Loses x k codes = LossFound (cameAt (x .board .banking .«revision_b») (x .board .irq) k codes) (lossIn x (callsUpTo k codes) 0)
+
+-- both
+pub record CameOn (x : State) (k : ℕ) (codes : List ℕ) (m : ℕ) : Type 0 where
+  pub comes : Comes x k codes m
+  pub loses : Loses x k codes
+
 -- of every accepted creation, every list of calls before, every handler and every number of clocks behind it; clocks are counted in 32
 -- bits, and the last bound leaves room for the longest wait of the counter
 abbrev pub CameLaw : Type 0
 CameLaw =
     (c : Creation) → create c .refusal ≡ 0 → (ws : List Call) → Each OfByte ws → (k : ℕ) → Waits (after (start c) ws .board .irq) k
-    → (codes : List ℕ) → k + clockCount (callsOf codes) + 100_000 < 2 ^ 32 → (m : ℕ) → Comes (after (start c) ws) k codes m
+    → (codes : List ℕ) → k + clockCount (callsOf codes) + 100_000 < 2 ^ 32 → (m : ℕ) → CameOn (after (start c) ws) k codes m

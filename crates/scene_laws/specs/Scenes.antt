@@ -1,6 +1,6 @@
 -- What the tool reports of a scene, on the board. `proofs/` proves it. Assumes nothing.
 use mathlib.Core.Path.{_≡_}
-use mathlib.Core.Bool.{false}
+use mathlib.Core.Bool.{Bool, false}
 use mathlib.Core.List.{List}
 use Prim.Native.Nat.{ℕ, _≤_, _<_}
 use lib.ListN.{length}
@@ -15,6 +15,7 @@ use Rattle.host_creation.specs.Numbers.{numbersOf}
 use Rattle.scene_board.specs.declared.ended.Ended.{Ended}
 use Rattle.scene_board.specs.Ended.{endOf, slotsShown}
 use Rattle.scene_board.specs.Played.{callsOf}
+use Rattle.scene_moments.specs.declared.lines.Screen.{Screen}
 use Rattle.scene_moments.specs.Moments.{clocksDue}
 use Rattle.scene_sweep.specs.declared.runs.Run.{Run}
 use Rattle.scene_sweep.specs.declared.runs.Sweep.{Sweep}
@@ -30,8 +31,8 @@ abbrev pub endFrom : Creation → (writes menu : List (List ℕ)) → Ended
 endFrom c ws ms = endOf (c .layout) (numbersOf (c .settings)) (c .fixed) (c .changing) (codesOf ws) (codesOf ms)
 
 -- the sweep that the tool starts there
-abbrev pub sweepOf : Creation → Ended → (window : ℕ) → Sweep
-sweepOf c e window = record { prescaler = e .irq .«prescalar_counter»; «revision_b» = isB (c .settings .revision); window = window }
+abbrev pub sweepOf : Creation → (screen : Screen) (window : ℕ) (unmasked : Bool) → Sweep
+sweepOf c screen window unmasked = record { screen = screen; «revision_b» = isB (c .settings .revision); window = window; unmasked = unmasked }
 
 -- an end e that is the board's, and whose sweeps are the board's
 pub record SceneOf (c : Creation) (writes menu : List (List ℕ)) (e : Ended) : Type 0 where
@@ -39,10 +40,10 @@ pub record SceneOf (c : Creation) (writes menu : List (List ℕ)) (e : Ended) : 
   pub counter : e .irq ≡ sceneWritten c writes .board .irq
   pub banks : e .banks ≡ slotsShown (c .layout) (sceneWritten c writes .board .«chr_pages»)
   pub behind : e .«after_menu» ≡ slotsShown (c .layout) (after (sceneWritten c writes) (callsOf (codesOf menu)) .board .«chr_pages»)
-  -- pending clear, and a run that the contract of `Sweep::run` allows: each clock of it has its verdict on the board
-  pub sweep : e .irq .«irq_pending» ≡ false → length menu ≤ 4_096 → (window from : ℕ) (r : Run)
-      → RunOf (sweepOf c e window) (codesOf menu) (irqClockedTimes lineStep lineLength from (e .irq)) from (clocksDue (e .irq)) r
-      → (j : ℕ) → from ≤ j → j < r .to → (m : ℕ) → HasVerdict (sceneWritten c writes) j (codesOf menu) m window (r .verdict)
+  -- pending clear, and a run that the contract of `Sweep::run` allows: each clock of it has on the board what it says
+  pub sweep : e .irq .«irq_pending» ≡ false → length menu ≤ 4_096 → (screen : Screen) (window : ℕ) (unmasked : Bool) (from : ℕ) (r : Run)
+      → RunOf (sweepOf c screen window unmasked) (codesOf menu) (irqClockedTimes lineStep lineLength from (e .irq)) from (clocksDue (e .irq)) r
+      → (j : ℕ) → from ≤ j → j < r .to → (m : ℕ) → HasVerdict (sceneWritten c writes) j (codesOf menu) m (sweepOf c screen window unmasked) r
 
 -- of every accepted creation and all words of writes and menu
 abbrev pub SceneLaw : Type 0

@@ -1,3 +1,4 @@
 pub mod Handling
-pub mod Screen
+pub mod Rows
+pub mod Screens
 pub mod Waiting

@@ -1,9 +1,11 @@
 -- What the interrupt's clock means for the window (docs/SCENES.md). Assumes nothing.
-use mathlib.Core.Bool.{cond}
+use mathlib.Core.Bool.{Bool, cond}
 use Prim.Native.Nat.{ℕ, _-_}
 use lib.Dec.{ltb}
+use Rattle.scene_moments.specs.declared.lines.Screen.{Screen}
 use Rattle.scene_moments.specs.declared.moment.Came.{Came}
-use Rattle.scene_moments.specs.declared.moment.Came.the-variants.{Never, On}
+use Rattle.scene_moments.specs.declared.moment.Came.the-variants.{Never, On, Lost}
+use Rattle.scene_moments.specs.declared.verdict.Seen.{Seen}
 use Rattle.scene_moments.specs.declared.verdict.Verdict.{Verdict}
 use Rattle.scene_moments.specs.Lines.{lineOf}
 
@@ -14,7 +16,28 @@ onLine line window =
     (cond (ltb window line) (record { line = line; off = line - window; mark = 2 })
     (record { line = line; off = 0; mark = 0 }))
 
--- an interrupt by its clock, p the prescaler at the end of the writes; 3 where it never comes
-abbrev pub verdictOf : Came → (p window : ℕ) → Verdict
-verdictOf Never p window = record { line = 0; off = 0; mark = 3 }
-verdictOf (On clock) p window = onLine (lineOf clock p) window
+-- one that the handler cleared, on the line on which it was set: lost (3), or what it is if the handler leaves interrupts open
+abbrev pub lostOn : (unmasked : Bool) → (line window : ℕ) → Verdict
+lostOn unmasked line window = cond unmasked (onLine line window) (record { line = line; off = 0; mark = 3 })
+
+-- an interrupt by its clock, from where the writes end; 4 where it never comes
+abbrev pub verdictOf : (unmasked : Bool) → Came → Screen → (window : ℕ) → Verdict
+verdictOf unmasked Never s window = record { line = 0; off = 0; mark = 4 }
+verdictOf unmasked (On clock) s window = onLine (lineOf s clock) window
+verdictOf unmasked (Lost set cleared) s window = lostOn unmasked (lineOf s set) window
+
+-- the clock on which an interrupt is set, 0 for never
+abbrev pub setOf : Came → ℕ
+setOf Never = 0
+setOf (On clock) = clock
+setOf (Lost set cleared) = set
+
+-- the clock on which the handler clears it, 0 if it does not
+abbrev pub clearedOf : Came → ℕ
+clearedOf Never = 0
+clearedOf (On clock) = 0
+clearedOf (Lost set cleared) = cleared
+
+-- what is seen of a moment
+abbrev pub seenAs : (unmasked : Bool) → Came → Screen → (window : ℕ) → Seen
+seenAs unmasked a s window = record { verdict = verdictOf unmasked a s window; set = setOf a; cleared = clearedOf a }

@@ -2,12 +2,21 @@
 pub mod sweeping;
 
 use scene_moments::Verdict;
+use scene_moments::lines::Screen;
+use scene_moments::lines::early_margin;
+use scene_moments::lines::late_margin;
 use scene_moments::verdict::EARLY;
+use scene_moments::verdict::LOST;
 use scene_moments::verdict::NEVER;
 use scene_moments::verdict::RIGHT;
+use scene_moments::verdict::Seen;
+use scene_sweep::Run;
+use scene_sweep::Span;
 use scene_sweep::Tally;
 use scene_sweep::tally::Wrong;
 use text_output::ROOM;
+use text_output::forms::put_form;
+use text_output::forms::put_nth;
 use text_output::put;
 use text_output::put_number;
 use text_output::put_text;
@@ -33,7 +42,7 @@ fn put_off(out: &mut [u8; ROOM], len: usize, verdict: Verdict) -> usize {
     put_text(out, b, b" late")
 }
 
-// `line 12 ok`, `line 13, one late`, `never`.
+// `line 12 ok`, `line 13, one late`, `never`. One that is lost has words of its own.
 pub fn put_verdict(out: &mut [u8; ROOM], len: usize, verdict: Verdict) -> usize {
     if verdict.mark == NEVER {
         return put_text(out, len, b"never");
@@ -43,30 +52,95 @@ pub fn put_verdict(out: &mut [u8; ROOM], len: usize, verdict: Verdict) -> usize 
     put_off(out, b, verdict)
 }
 
-// A word heads the first run of a sweep; the others stand below it.
-fn put_head(out: &mut [u8; ROOM], len: usize, from: u32) -> usize {
-    if from == 0 {
-        return put_text(out, len, b"  clocks ");
+// ` clock 228`, ` clocks 228..287`.
+fn put_clocks(out: &mut [u8; ROOM], len: usize, clocks: Span) -> usize {
+    let numbers = [clocks.least, clocks.most];
+    if clocks.least == clocks.most {
+        return put_form(out, len, b" clock %d", &numbers);
     }
-    put_text(out, len, b"         ")
+    put_form(out, len, b" clocks %d..%d", &numbers)
 }
 
-// A run of clocks with one verdict.
-pub fn put_run(out: &mut [u8; ROOM], len: usize, from: u32, to: u32, verdict: Verdict) -> usize {
-    let a = put_head(out, len, from);
-    let b = put_number(out, a, from);
-    let c = put_text(out, b, b"..");
-    let d = put_number(out, c, to);
-    let e = put_text(out, d, b": ");
-    let f = put_verdict(out, e, verdict);
-    put(out, f, b'\n')
+// An interrupt that the menu cleared.
+fn put_lost(out: &mut [u8; ROOM], len: usize, set: Span, cleared: Span) -> usize {
+    let a = put_text(out, len, b"set on");
+    let b = put_clocks(out, a, set);
+    let c = put_text(out, b, b" inside the menu, cleared by it on");
+    put_clocks(out, c, cleared)
+}
+
+// What is seen of a moment.
+fn put_seen(out: &mut [u8; ROOM], len: usize, seen: Seen) -> usize {
+    let verdict = seen.verdict;
+    if verdict.mark == LOST {
+        let set = Span::of(seen.set);
+        let cleared = Span::of(seen.cleared);
+        return put_lost(out, len, set, cleared);
+    }
+    put_verdict(out, len, verdict)
+}
+
+// How many clocks later than without the menu, with a minus for earlier.
+fn put_later(out: &mut [u8; ROOM], len: usize, clock: u32, alone: u32) -> usize {
+    if clock < alone {
+        let a = put(out, len, b'-');
+        return put_number(out, a, alone - clock);
+    }
+    put_number(out, len, clock - alone)
+}
+
+// A run's drift, and how many clocks earlier and later would be another line.
+fn put_drift(out: &mut [u8; ROOM], len: usize, set: Span, screen: Screen, alone: u32) -> usize {
+    let a = put_text(out, len, b"; drift ");
+    let mut b = put_later(out, a, set.least, alone);
+    if set.least != set.most {
+        let c = put_text(out, b, b"..");
+        b = put_later(out, c, set.most, alone);
+    }
+    let numbers = [
+        early_margin(screen, set.least),
+        late_margin(screen, set.most),
+    ];
+    put_form(out, b, b", margin -%d +%d", &numbers)
+}
+
+// What all moments of a run have.
+fn put_all(out: &mut [u8; ROOM], len: usize, run: Run, screen: Screen, alone: u32) -> usize {
+    let first = run.first;
+    let verdict = first.verdict;
+    if verdict.mark == LOST {
+        return put_lost(out, len, run.set, run.cleared);
+    }
+    let a = put_verdict(out, len, verdict);
+    if verdict.mark == NEVER {
+        return a;
+    }
+    put_drift(out, a, run.set, screen, alone)
+}
+
+// A run of clocks, from its first to its last, in a sweep from where the writes end. Without the menu the interrupt comes on clock
+// `alone`. A word heads the first run; the others stand below it.
+pub fn put_run(
+    out: &mut [u8; ROOM],
+    len: usize,
+    from: u32,
+    last: u32,
+    run: Run,
+    screen: Screen,
+    alone: u32,
+) -> usize {
+    let a = put_nth(out, len, b"  clocks |         ", (0 < from) as usize);
+    let numbers = [from, last];
+    let b = put_form(out, a, b"%d..%d: ", &numbers);
+    let c = put_all(out, b, run, screen, alone);
+    put(out, c, b'\n')
 }
 
 fn put_moment(out: &mut [u8; ROOM], len: usize, name: &[u8], wrong: Wrong) -> usize {
     let a = put_text(out, len, name);
     let b = put_number(out, a, wrong.clock);
     let c = put_text(out, b, b": ");
-    let d = put_verdict(out, c, wrong.verdict);
+    let d = put_seen(out, c, wrong.seen);
     put(out, d, b'\n')
 }
 
@@ -81,6 +155,7 @@ fn mark_of(mark: u8) -> u8 {
         0 => b'.',
         1 => b'<',
         2 => b'>',
+        3 => b'!',
         _ => b'x',
     }
 }

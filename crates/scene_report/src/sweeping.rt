@@ -35,10 +35,11 @@ pub fn sweep_clocks(
     let mut n = len;
     while from < clocks {
         let run = given.run(irq, from, clocks, menu);
-        let verdict = run.verdict;
+        let first = run.first;
+        let verdict = first.verdict;
         tally = tally.add(from, run);
         mark(&mut bar, from, run.to, clocks, verdict.mark);
-        n = put_run(out, n, from, run.to - 1, verdict);
+        n = put_run(out, n, from, run.to - 1, run, given.screen, clocks);
         irq = run.irq;
         from = run.to;
     }

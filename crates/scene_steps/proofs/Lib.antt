@@ -1,4 +1,6 @@
 pub mod Codes
+pub mod Pictured
+pub mod Prefixes
 pub mod Ranges
 pub mod Rows
 pub mod Said

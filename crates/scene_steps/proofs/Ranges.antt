@@ -15,10 +15,10 @@ use Rattle.scene_cells.specs.Marks.{fromMark, beforeMark, behindMark}
 use Rattle.scene_steps.specs.declared.step.Step.{Step}
 use Rattle.scene_steps.specs.declared.step.Step.the-variants.{Write, Clocks, Reset, Wrong}
 use Rattle.scene_steps.specs.Laws.{Said, SaidLaw}
-use Rattle.scene_steps.specs.Steps.{byteFrom, clocksFrom, isReset, stepOf, writeFrom}
+use Rattle.scene_steps.specs.Steps.{byteFrom, clocksFrom, hexOf, isReset, stepOf, writeFrom}
 
 -- a number within its limit
-abbrev Below : (limit : ℕ) → Number → Type 0
+abbrev pub Below : (limit : ℕ) → Number → Type 0
 Below limit (Value n) = n ≤ limit
 Below limit NoNumber = Unit {0}
 Below limit TooLarge = Unit {0}
@@ -26,7 +26,7 @@ Below limit TooLarge = Unit {0}
 limited-below : (limit v : ℕ) → Below limit (limited limit v)
 limited-below limit v = tested (leb v limit) (λ e. rw e (leb-true v limit e)) (λ e. rw e tt)
 
-below : (base limit : ℕ) (w : List ℕ) → Below limit (numberOf base limit w)
+pub below : (base limit : ℕ) (w : List ℕ) → Below limit (numberOf base limit w)
 unfolding numberOf
 below base limit [] = tt
 below base limit (b ∷ bs) =
@@ -57,4 +57,4 @@ said-law w =
     (either Said (eqb (length w) 0) (wrong 7 (omega arith))
     (either Said (eqb (getD w 0 0) 43) (clocks-said (numberOf 10 1_000_000 (drop 1 w)) (below 10 1_000_000 (drop 1 w)))
     (either Said (eqb (length (fromMark 61 w)) 0) (wrong 7 (omega arith))
-    (write-said (numberOf 16 65_535 (beforeMark 61 w)) (numberOf 16 255 (behindMark 61 w))))))
+    (write-said (hexOf 65_535 (beforeMark 61 w)) (hexOf 255 (behindMark 61 w))))))

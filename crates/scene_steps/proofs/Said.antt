@@ -11,7 +11,7 @@ use Rattle.scene_cells.proofs.Spans.{head, tail, missing, there, onward}
 use Rattle.scene_steps.specs.declared.letters.Pair.the-variants as pair
 use Rattle.scene_steps.specs.declared.step.Step.the-variants.{Reset, Wrong}
 use Rattle.scene_steps.specs.Letters.{pairFrom, pairOf}
-use Rattle.scene_steps.specs.Steps.{clocksFrom, isReset, stepFrom, stepOf, writeFrom}
+use Rattle.scene_steps.specs.Steps.{clocksFrom, hexOf, isReset, stepFrom, stepOf, writeFrom}
 
 -- a word of a step
 pub resets : (w : List ℕ) → isReset w ≡ true → Reset ≡ stepOf w
@@ -34,11 +34,11 @@ module _ (w : List ℕ) (r : isReset w ≡ false) where
       unmarked e = rw (r, ne-eqb (length w) 0 s, ne-eqb (getD w 0 0) 43 p, missing 61 w at f e)
 
       pub writes : (at ≡ length w → ⊥)
-          → writeFrom (numberOf 16 65_535 (take (at - 0) (drop 0 w))) (numberOf 16 255 (take (length w - (at + 1)) (drop (at + 1) w))) ≡ stepOf w
+          → writeFrom (hexOf 65_535 (take (at - 0) (drop 0 w))) (hexOf 255 (take (length w - (at + 1)) (drop (at + 1) w))) ≡ stepOf w
       unfolding stepOf
       writes n =
           rw (r, ne-eqb (length w) 0 s, ne-eqb (getD w 0 0) 43 p, there 61 w at f n)
-          (ap₂ (λ (a b : List ℕ). writeFrom (numberOf 16 65_535 a) (numberOf 16 255 b)) (head 61 w at f) (tail 61 w at f))
+          (ap₂ (λ (a b : List ℕ). writeFrom (hexOf 65_535 a) (hexOf 255 b)) (head 61 w at f) (tail 61 w at f))
 
 -- a word of the letters' cell
 module _ (w : List ℕ) (at : ℕ) (f : PlaceOf (fromMark 58) w 0 at) where

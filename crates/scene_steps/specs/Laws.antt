@@ -1,12 +1,17 @@
 -- A step's number keeps the step, every word's step has such a number, and examples of what the definitions give. Assumes nothing.
 use mathlib.Core.Path.{_≡_}
-use mathlib.Core.List.{List, [], _∷_}
+use mathlib.Core.List.{List}
 use Prim.Native.Nat.{ℕ, _≤_, _<_}
+use Rattle.text_words.specs.Names.{codes}
 use Rattle.scene_steps.specs.declared.letters.Pair.the-variants as pair
 use Rattle.scene_steps.specs.declared.letters.Pair.the-variants.{Letter}
+use Rattle.scene_steps.specs.declared.picture.At.{At}
+use Rattle.scene_steps.specs.declared.picture.At.the-variants as at
+use Rattle.scene_steps.specs.declared.picture.At.the-variants.{Unsaid, Line, Dot}
 use Rattle.scene_steps.specs.declared.step.Step.{Step}
 use Rattle.scene_steps.specs.declared.step.Step.the-variants.{Write, Clocks, Reset, Wrong}
 use Rattle.scene_steps.specs.Letters.{pairOf}
+use Rattle.scene_steps.specs.Picture.{atIn}
 use Rattle.scene_steps.specs.Steps.{codeOf, stepCoded, stepOf, waitOf}
 
 -- a step that its number has room for
@@ -29,33 +34,54 @@ pub record Said (s : Step) : Type 0 where
 abbrev pub SaidLaw : Type 0
 SaidLaw = (w : List ℕ) → Said (stepOf w)
 
--- words with the numbers of their ASCII codes
+-- a line and a dot of the picture, which has 262 lines of 341 dots (docs/SCENES.md)
+abbrev pub InPicture : At → Type 0
+InPicture Unsaid = Unit {0}
+InPicture (Line line) = line ≤ 261
+InPicture (Dot line dot) = (line ≤ 261) × (dot ≤ 340)
+InPicture (at.Wrong n) = Unit {0}
+
+-- what the cell `at` says lies in the picture (docs/SCENES.md)
+abbrev pub InPictureLaw : Type 0
+InPictureLaw = (cell : List ℕ) → InPicture (atIn cell)
+
+-- words of the cells `writes`, `menu` and `letters` (docs/SCENES.md)
 pub record StepExamples : Type 0 where
-  -- `D001=1a`
-  pub write : stepOf (68 ∷ 48 ∷ 48 ∷ 49 ∷ 61 ∷ 49 ∷ 97 ∷ []) ≡ Write 53_249 26
-  -- `+114`
-  pub clocks : stepOf (43 ∷ 49 ∷ 49 ∷ 52 ∷ []) ≡ Clocks 114
-  -- `reset`
-  pub reset : stepOf (114 ∷ 101 ∷ 115 ∷ 101 ∷ 116 ∷ []) ≡ Reset
-  -- `D00G=12`
-  pub no-address : stepOf (68 ∷ 48 ∷ 48 ∷ 71 ∷ 61 ∷ 49 ∷ 50 ∷ []) ≡ Wrong 1
-  -- `10000=12`
-  pub large-address : stepOf (49 ∷ 48 ∷ 48 ∷ 48 ∷ 48 ∷ 61 ∷ 49 ∷ 50 ∷ []) ≡ Wrong 2
-  -- `D000=1G`
-  pub no-byte : stepOf (68 ∷ 48 ∷ 48 ∷ 48 ∷ 61 ∷ 49 ∷ 71 ∷ []) ≡ Wrong 3
-  -- `D000=100`
-  pub large-byte : stepOf (68 ∷ 48 ∷ 48 ∷ 48 ∷ 61 ∷ 49 ∷ 48 ∷ 48 ∷ []) ≡ Wrong 4
-  -- `+x`
-  pub no-clocks : stepOf (43 ∷ 120 ∷ []) ≡ Wrong 5
-  -- `+1000001`
-  pub many-clocks : stepOf (43 ∷ 49 ∷ 48 ∷ 48 ∷ 48 ∷ 48 ∷ 48 ∷ 49 ∷ []) ≡ Wrong 6
-  -- `foo`
-  pub no-step : stepOf (102 ∷ 111 ∷ 111 ∷ []) ≡ Wrong 7
-  -- `3:17`
-  pub letter : pairOf (51 ∷ 58 ∷ 49 ∷ 55 ∷ []) ≡ Letter 3 17
-  -- `17`
-  pub no-pair : pairOf (49 ∷ 55 ∷ []) ≡ pair.Wrong 1
-  -- `8:1`
-  pub no-slot : pairOf (56 ∷ 58 ∷ 49 ∷ []) ≡ pair.Wrong 2
-  -- `1:x`
-  pub no-bank : pairOf (49 ∷ 58 ∷ 120 ∷ []) ≡ pair.Wrong 3
+  pub write : stepOf (codes "D001=1a") ≡ Write 0xD001 0x1A
+  -- `$` and `0x` before either number, each by itself
+  pub dollars : stepOf (codes "$F000=$FE") ≡ Write 0xF000 0xFE
+  pub prefixed : stepOf (codes "0xF000=0XFE") ≡ Write 0xF000 0xFE
+  pub mixed : stepOf (codes "0f000=$fe") ≡ Write 0xF000 0xFE
+  pub no-digits : stepOf (codes "$=12") ≡ Wrong 1
+  pub no-digits-behind : stepOf (codes "F000=0x") ≡ Wrong 3
+  pub two-prefixes : stepOf (codes "$0xF000=12") ≡ Wrong 1
+  pub clocks : stepOf (codes "+114") ≡ Clocks 114
+  pub hexadecimal-clocks : stepOf (codes "+$10") ≡ Wrong 5
+  pub reset : stepOf (codes "reset") ≡ Reset
+  pub capital : stepOf (codes "Reset") ≡ Reset
+  pub no-reset : stepOf (codes "resets") ≡ Wrong 7
+  pub no-address : stepOf (codes "D00G=12") ≡ Wrong 1
+  pub large-address : stepOf (codes "10000=12") ≡ Wrong 2
+  pub no-byte : stepOf (codes "D000=1G") ≡ Wrong 3
+  pub large-byte : stepOf (codes "D000=100") ≡ Wrong 4
+  pub no-clocks : stepOf (codes "+x") ≡ Wrong 5
+  pub many-clocks : stepOf (codes "+1000001") ≡ Wrong 6
+  pub no-step : stepOf (codes "foo") ≡ Wrong 7
+  pub letter : pairOf (codes "3:17") ≡ Letter 3 17
+  pub no-pair : pairOf (codes "17") ≡ pair.Wrong 1
+  pub no-slot : pairOf (codes "8:1") ≡ pair.Wrong 2
+  pub no-bank : pairOf (codes "1:x") ≡ pair.Wrong 3
+
+-- the cell `at` (docs/SCENES.md)
+pub record AtExamples : Type 0 where
+  pub line : atIn (codes "0") ≡ Line 0
+  pub last-line : atIn (codes " 261 ") ≡ Line 261
+  pub dot : atIn (codes "241:1") ≡ Dot 241 1
+  pub last-dot : atIn (codes "261:340") ≡ Dot 261 340
+  pub unsaid : atIn (codes " ") ≡ Unsaid
+  pub no-line : atIn (codes "262") ≡ at.Wrong 1
+  pub no-line-before : atIn (codes ":5") ≡ at.Wrong 1
+  pub no-dot : atIn (codes "12:341") ≡ at.Wrong 2
+  pub no-dot-behind : atIn (codes "12:") ≡ at.Wrong 2
+  pub two-marks : atIn (codes "1:2:3") ≡ at.Wrong 2
+  pub words : atIn (codes "12 : 1") ≡ at.Wrong 3

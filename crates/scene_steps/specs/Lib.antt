@@ -1,3 +1,4 @@
 pub mod Laws
 pub mod Letters
+pub mod Picture
 pub mod Steps

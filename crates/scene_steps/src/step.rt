@@ -1,9 +1,11 @@
-// A step of a scene: a CPU write `AAAA=BB`, clocks `+N`, or `reset`.
+// A step of a scene: a CPU write `AAAA=BB`, clocks `+N`, or `reset`, capitals or not.
+use crate::hex::in_hex;
 use scene_cells::marks::place_of;
+use text_words::names::same_name;
 use text_words::number::Number;
 use text_words::number::in_base;
 ghost use mathlib.Core.Path.{_≡_};
-ghost use Rattle.scene_steps.specs.Steps.{byteFrom, clocksFrom, codeOf, isReset, stepCoded, stepOf, writeFrom};
+ghost use Rattle.scene_steps.specs.Steps.{byteFrom, clocksFrom, codeOf, stepCoded, stepOf, writeFrom};
 
 // The most clocks of one step.
 pub const MOST_CLOCKS: u32 = 1000000;
@@ -29,19 +31,6 @@ pub enum Step {
     Reset,
     // The number says what is wrong.
     Wrong(u8),
-}
-
-fn is_reset(word: &[u8]) -> bool
-    ensures { λ r. ⌜ r ≡ isReset (now (word .entry)) ⌝ }
-{
-    if word.len() == 5 {
-        return (word[0] == b'r')
-            & (word[1] == b'e')
-            & (word[2] == b's')
-            & (word[3] == b'e')
-            & (word[4] == b't');
-    }
-    false
 }
 
 fn clocks_from(count: Number) -> Step
@@ -78,7 +67,7 @@ fn write_from(address: Number, byte: Number) -> Step
 pub fn step_of(word: &[u8]) -> Step
     ensures { λ r. ⌜ r ≡ stepOf (now (word .entry)) ⌝ }
 {
-    if is_reset(word) {
+    if same_name(word, b"reset") {
         return Step::Reset;
     }
     let at = place_of(word, b'=');
@@ -91,8 +80,8 @@ pub fn step_of(word: &[u8]) -> Step
     if at == word.len() {
         return Step::Wrong(NO_STEP);
     }
-    let address = in_base(&word[0..at], 16, 0xFFFF);
-    let byte = in_base(&word[at + 1..], 16, 0xFF);
+    let address = in_hex(&word[0..at], 0xFFFF);
+    let byte = in_hex(&word[at + 1..], 0xFF);
     write_from(address, byte)
 }
 

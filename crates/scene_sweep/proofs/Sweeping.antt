@@ -10,12 +10,13 @@ use Rattle.irq_clocks.specs.Clocks.{irqClockedTimes}
 use Rattle.scene_sweep.specs.declared.runs.Run.{Run}
 use Rattle.scene_sweep.specs.declared.runs.Sweep.{Sweep}
 use Rattle.scene_sweep.specs.declared.tally.Tally.{Tally}
+use Rattle.scene_moments.specs.declared.verdict.Seen.{Seen}
 use Rattle.scene_moments.specs.declared.verdict.Verdict.{Verdict}
 use Rattle.scene_sweep.specs.Bars.{MarkedOn, Unmarked}
-use Rattle.scene_sweep.specs.Runs.{RunOf, verdictIn}
+use Rattle.scene_sweep.specs.Runs.{RunOf, seenIn}
 use Rattle.scene_sweep.specs.Swept.{SweptOf}
 use Rattle.scene_sweep.specs.Tallies.{TalliedNone, TalliedOn}
-use Rattle.scene_sweep.proofs.Running.{in-sweep, on-from}
+use Rattle.scene_sweep.proofs.Running.{first-in-sweep, in-sweep, on-from}
 
 module _ (s : Sweep) (menu : List ℕ) (q : VrcIrq) (n : ℕ) where
   -- the clocks before `from` are swept, and the counter stands there
@@ -30,15 +31,18 @@ module _ (s : Sweep) (menu : List ℕ) (q : VrcIrq) (n : ℕ) where
       record {
         within = omega arith;
         counter = refl;
-        swept = record { tallied = a (verdictIn s menu q); barred = b (λ j. verdictIn s menu q j .mark) n };
+        swept = record { tallied = a (seenIn s menu q); barred = b (λ j. seenIn s menu q j .verdict .mark) n };
       }
 
   module _ (from : ℕ) (now : VrcIrq) (t : Tally) (bar : List ℕ) (u : Upto from now t bar) (r : Run) (run : RunOf s menu now from n r) where
     -- the clocks of the run have its verdict
-    same : (j : ℕ) → from ≤ j → j < r .to → verdictIn s menu q j ≡ r .verdict
+    same : (j : ℕ) → from ≤ j → j < r .to → seenIn s menu q j .verdict ≡ r .first .verdict
     same = in-sweep s menu q from n r (subst (λ (p : VrcIrq). RunOf s menu p from n r) (u .counter) run)
 
-    pub more : (t' : Tally) (bar' : List ℕ) → TalliedOn t from r t' → MarkedOn n from (r .to) (r .verdict .mark) bar bar' → Upto (r .to) (r .irq) t' bar'
+    first : seenIn s menu q from ≡ r .first
+    first = first-in-sweep s menu q from n r (subst (λ (p : VrcIrq). RunOf s menu p from n r) (u .counter) run)
+
+    pub more : (t' : Tally) (bar' : List ℕ) → TalliedOn t from r t' → MarkedOn n from (r .to) (r .first .verdict .mark) bar bar' → Upto (r .to) (r .irq) t' bar'
     more t' bar' a b =
         record {
           within = run .within;
@@ -48,8 +52,8 @@ module _ (s : Sweep) (menu : List ℕ) (q : VrcIrq) (n : ℕ) where
               ∙ on-from q from (r .to) (omega (arith, run .onward));
           swept =
               record {
-                tallied = a (verdictIn s menu q) (u .swept .tallied) same;
-                barred = b (λ j. verdictIn s menu q j .mark) (u .swept .barred) (λ j x y. ap (λ (v : Verdict). v .mark) (same j x y));
+                tallied = a (seenIn s menu q) (u .swept .tallied) first same;
+                barred = b (λ j. seenIn s menu q j .verdict .mark) (u .swept .barred) (λ j x y. ap (λ (v : Verdict). v .mark) (same j x y));
               };
         }
 

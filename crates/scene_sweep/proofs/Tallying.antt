@@ -10,12 +10,13 @@ use Rattle.base_shared.proofs.Tests.{either, tested}
 use Rattle.scene_sweep.specs.declared.runs.Run.{Run}
 use Rattle.scene_sweep.specs.declared.tally.Tally.{Tally}
 use Rattle.scene_sweep.specs.declared.tally.Wrong.{Wrong}
+use Rattle.scene_moments.specs.declared.verdict.Seen.{Seen}
 use Rattle.scene_moments.specs.declared.verdict.Verdict.{Verdict}
 use Rattle.scene_sweep.specs.Tallies.{FirstWrong, Tallied, WorstWrong, WrongAt, badness, isWrong, wrongBefore}
 
-module _ (at : ℕ → Verdict) where
+module _ (at : ℕ → Seen) where
   -- m clocks that are all wrong, or all right
-  spans : (b : Bool) (from m : ℕ) → ((j : ℕ) → from ≤ j → j < from + m → isWrong (at j) ≡ b) → wrongBefore at (from + m) ≡ cond b m 0 + wrongBefore at from
+  spans : (b : Bool) (from m : ℕ) → ((j : ℕ) → from ≤ j → j < from + m → isWrong (at j .verdict) ≡ b) → wrongBefore at (from + m) ≡ cond b m 0 + wrongBefore at from
   unfolding wrongBefore
   spans b from zero h = ap (wrongBefore at) none-more ∙ nothing b
     where
@@ -40,26 +41,26 @@ module _ (at : ℕ → Verdict) where
   pub most : (n : ℕ) → wrongBefore at n ≤ n
   unfolding wrongBefore
   most zero = omega arith
-  most (suc n) = either (λ (x : ℕ). x + wrongBefore at n ≤ suc n) (isWrong (at n)) (omega (arith, most n)) (omega (arith, most n))
+  most (suc n) = either (λ (x : ℕ). x + wrongBefore at n ≤ suc n) (isWrong (at n .verdict)) (omega (arith, most n)) (omega (arith, most n))
 
-  none-wrong : (n : ℕ) → wrongBefore at n ≡ 0 → (j : ℕ) → j < n → isWrong (at j) ≡ false
+  none-wrong : (n : ℕ) → wrongBefore at n ≡ 0 → (j : ℕ) → j < n → isWrong (at j .verdict) ≡ false
   unfolding wrongBefore
   none-wrong zero e j h = absurd (omega arith)
   none-wrong (suc n) e j h =
-      tested (isWrong (at n))
+      tested (isWrong (at n .verdict))
       (λ w. absurd (omega (arith, ap (λ (b : Bool). cond b 1 0 + wrongBefore at n) (sym w) ∙ e)))
       (λ w.
       tested (leb n j)
-      (λ l. ap (λ (k : ℕ). isWrong (at k)) (omega (arith, leb-true n j l)) ∙ w)
+      (λ l. ap (λ (k : ℕ). isWrong (at k .verdict)) (omega (arith, leb-true n j l)) ∙ w)
       (λ l. none-wrong n (omega (arith, ap (λ (b : Bool). cond b 1 0 + wrongBefore at n) (sym w) ∙ e)) j (leb-false n j l)))
 
-pub none : (at : ℕ → Verdict) (t : Tally) → t .count ≡ 0 → Tallied at 0 t
+pub none : (at : ℕ → Seen) (t : Tally) → t .count ≡ 0 → Tallied at 0 t
 unfolding wrongBefore
 none at t e = record { count = e; first = λ h. absurd (omega arith); worst = λ h. absurd (omega arith) }
 
-module _ (t : Tally) (from : ℕ) (r : Run) (go : from < r .to) (at : ℕ → Verdict) (was : Tallied at from t)
-    (same : (j : ℕ) → from ≤ j → j < r .to → at j ≡ r .verdict) where
-  all-of : (b : Bool) → isWrong (r .verdict) ≡ b → wrongBefore at (r .to) ≡ cond b (r .to - from) 0 + wrongBefore at from
+module _ (t : Tally) (from : ℕ) (r : Run) (go : from < r .to) (at : ℕ → Seen) (was : Tallied at from t)
+    (first : at from ≡ r .first) (same : (j : ℕ) → from ≤ j → j < r .to → at j .verdict ≡ r .first .verdict) where
+  all-of : (b : Bool) → isWrong (r .first .verdict) ≡ b → wrongBefore at (r .to) ≡ cond b (r .to - from) 0 + wrongBefore at from
   all-of b e =
       ap (wrongBefore at) back
       ∙ spans at b from (r .to - from) (λ j x y. ap isWrong (same j x (omega arith)) ∙ e)
@@ -68,16 +69,16 @@ module _ (t : Tally) (from : ℕ) (r : Run) (go : from < r .to) (at : ℕ → Ve
       back = omega arith
 
   -- a clock of the run, or one before it
-  behind : {A : Type 0} (j : ℕ) → j < r .to → (j < from → A) → (at j ≡ r .verdict → A) → A
+  behind : {A : Type 0} (j : ℕ) → j < r .to → (j < from → A) → (at j .verdict ≡ r .first .verdict → A) → A
   behind j h f g = tested (leb from j) (λ l. g (same j (leb-true from j l) h)) (λ l. f (leb-false from j l))
 
   -- a wrong clock before the run is one before its end
   still : (w : Wrong) → WrongAt at from w → WrongAt at (r .to) w
-  still w i = record { before = omega (arith, i .before); verdict = i .verdict; wrong = i .wrong }
+  still w i = record { before = omega (arith, i .before); seen = i .seen; wrong = i .wrong }
 
   -- ---- a run that is right
-  module _ (right : isWrong (r .verdict) ≡ false) where
-    no-wrong : (j : ℕ) → at j ≡ r .verdict → isWrong (at j) ≡ true → ⊥
+  module _ (right : isWrong (r .first .verdict) ≡ false) where
+    no-wrong : (j : ℕ) → at j .verdict ≡ r .first .verdict → isWrong (at j .verdict) ≡ true → ⊥
     no-wrong j e w = false≢true (sym right ∙ ap isWrong (sym e) ∙ w)
 
     pub kept : Tallied at (r .to) t
@@ -94,7 +95,7 @@ module _ (t : Tally) (from : ℕ) (r : Run) (go : from < r .to) (at : ℕ → Ve
         }
 
   -- ---- a run that is wrong
-  module _ (wrong : isWrong (r .verdict) ≡ true) (n : ℕ) (counted : n ≡ (t .count + (r .to - from)) % 2 ^ 32) (room : r .to < 2 ^ 32) where
+  module _ (wrong : isWrong (r .first .verdict) ≡ true) (n : ℕ) (counted : n ≡ (t .count + (r .to - from)) % 2 ^ 32) (room : r .to < 2 ^ 32) where
     more : n ≡ wrongBefore at (r .to)
     more =
         counted
@@ -102,15 +103,15 @@ module _ (t : Tally) (from : ℕ) (r : Run) (go : from < r .to) (at : ℕ → Ve
         ∙ omega (arith, was .count, all-of true wrong)
 
     abbrev here : Wrong
-    here = record { clock = from; verdict = r .verdict }
+    here = record { clock = from; seen = r .first }
 
     is-here : WrongAt at (r .to) here
-    is-here = record { before = go; verdict = sym (same from (omega arith) go); wrong = wrong }
+    is-here = record { before = go; seen = sym first; wrong = wrong }
 
     -- the first that is wrong
     pub begun : t .count ≡ 0 → Tallied at (r .to) (record { count = n; first = here; worst = here })
     begun z =
-        let all-right : (j : ℕ) → j < from → isWrong (at j) ≡ false = none-wrong at from (sym (was .count) ∙ z) in
+        let all-right : (j : ℕ) → j < from → isWrong (at j .verdict) ≡ false = none-wrong at from (sym (was .count) ∙ z) in
         record {
           count = more;
           first = λ h. record { is = is-here; right-before = all-right };
@@ -126,7 +127,7 @@ module _ (t : Tally) (from : ℕ) (r : Run) (go : from < r .to) (at : ℕ → Ve
       first-still : FirstWrong at (r .to) (t .first)
       first-still = record { is = still (t .first) (was .first some .is); right-before = was .first some .right-before }
 
-      pub worse : badness (t .worst .verdict) < badness (r .verdict) → Tallied at (r .to) (record { count = n; first = t .first; worst = here })
+      pub worse : badness (t .worst .seen .verdict) < badness (r .first .verdict) → Tallied at (r .to) (record { count = n; first = t .first; worst = here })
       worse b =
           record {
             count = more;
@@ -139,7 +140,7 @@ module _ (t : Tally) (from : ℕ) (r : Run) (go : from < r .to) (at : ℕ → Ve
                 };
           }
 
-      pub no-worse : badness (r .verdict) ≤ badness (t .worst .verdict) → Tallied at (r .to) (record { count = n; first = t .first; worst = t .worst })
+      pub no-worse : badness (r .first .verdict) ≤ badness (t .worst .seen .verdict) → Tallied at (r .to) (record { count = n; first = t .first; worst = t .worst })
       no-worse b =
           record {
             count = more;

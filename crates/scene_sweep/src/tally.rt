@@ -1,16 +1,18 @@
 // The moments of a sweep that are wrong: how many, the first and the worst.
 use crate::runs::Run;
+use scene_moments::verdict::LOST;
 use scene_moments::verdict::NEVER;
 use scene_moments::verdict::RIGHT;
+use scene_moments::verdict::Seen;
 use scene_moments::verdict::Verdict;
 ghost use mathlib.Core.Path.{_≡_};
 ghost use Prim.Native.Nat.{_<_};
 ghost use Rattle.scene_sweep.specs.Tallies.{TalliedNone, TalliedOn, badness};
 
-// A clock at which the menu is wrong.
+// A clock at which the menu is wrong, and what is seen there.
 pub struct Wrong {
     pub clock: u32,
-    pub verdict: Verdict,
+    pub seen: Seen,
 }
 
 // Where none is wrong, the first and the worst say nothing.
@@ -27,6 +29,9 @@ fn badness(verdict: Verdict) -> u64
     ensures { λ r. ⌜ r ≡ badness verdict ⌝ }
 {
     if verdict.mark == NEVER {
+        return BEYOND + 1;
+    }
+    if verdict.mark == LOST {
         return BEYOND;
     }
     verdict.off as u64
@@ -38,10 +43,14 @@ impl Tally {
     {
         let none = Wrong {
             clock: 0,
-            verdict: Verdict {
-                line: 0,
-                off: 0,
-                mark: RIGHT,
+            seen: Seen {
+                verdict: Verdict {
+                    line: 0,
+                    off: 0,
+                    mark: RIGHT,
+                },
+                set: 0,
+                cleared: 0,
             },
         };
         Tally {
@@ -56,14 +65,12 @@ impl Tally {
         requires { ⌜ from < run .to ⌝ }
         ensures { λ r. ⌜ TalliedOn self from run r ⌝ }
     {
-        let verdict = run.verdict;
+        let seen = run.first;
+        let verdict = seen.verdict;
         if verdict.mark == RIGHT {
             return self;
         }
-        let here = Wrong {
-            clock: from,
-            verdict,
-        };
+        let here = Wrong { clock: from, seen };
         let count = std::num::wrapping_add_u32(self.count, run.to - from);
         let first = self.first;
         let worst = self.worst;
@@ -74,8 +81,8 @@ impl Tally {
                 worst: here,
             };
         }
-        let known = worst.verdict;
-        if badness(known) < badness(verdict) {
+        let known = worst.seen;
+        if badness(known.verdict) < badness(verdict) {
             return Tally {
                 count,
                 first,

@@ -1,17 +1,30 @@
 // A scene that was played: its letters, its window, and the sweep of its menu.
+use crate::changes::put_changes;
+use crate::changes::put_unreached;
+use crate::inside::put_inside;
+use crate::letters::AFTER_MENU;
+use crate::letters::AT_END;
+use crate::letters::are_asked;
 use crate::letters::put_letters;
 use crate::scene::NO_WINDOW;
 use crate::scene::Scene;
 use crate::totals::Outcome;
+use crate::totals::RIGHT_SCENE;
+use crate::totals::UNASKED_SCENE;
+use crate::totals::WRONG_SCENE;
 use irq::VrcIrq;
 use scene_board::ended::Ended;
 use scene_moments::Came;
 use scene_moments::Verdict;
+use scene_moments::lines::Screen;
 use scene_moments::lines::line_of;
+use scene_moments::lines::screen_at;
+use scene_moments::moment::came_after;
 use scene_moments::moment::came_alone;
 use scene_moments::moment::clocks_due;
 use scene_moments::verdict::NEVER;
 use scene_moments::verdict::RIGHT;
+use scene_moments::verdict::set_of;
 use scene_moments::verdict::verdict_of;
 use scene_report::put_verdict;
 use scene_report::sweeping::put_found;
@@ -24,31 +37,48 @@ use text_output::forms::put_nth;
 use text_output::put;
 use text_output::put_text;
 
+// What the menu came to: whether it is right, whether it was swept, and over how many moments, and how many are wrong.
+struct Checked {
+    right: bool,
+    swept: bool,
+    moments: u32,
+    wrong: u32,
+    len: usize,
+}
+
+fn unswept(right: bool, len: usize) -> Checked {
+    Checked {
+        right,
+        swept: false,
+        moments: 0,
+        wrong: 0,
+        len,
+    }
+}
+
 // The line that is right: the window, or where none is given the line without the menu.
-fn right_line(irq: VrcIrq, window: u32) -> u32 {
+fn right_line(irq: VrcIrq, window: u32, screen: Screen) -> u32 {
     if window != NO_WINDOW {
         return window;
     }
-    match came_alone(irq) {
-        Came::Never => 0,
-        Came::On(clock) => line_of(clock, irq.prescalar_counter),
+    line_of(screen, set_of(came_alone(irq)))
+}
+
+// The sweep of a scene.
+fn sweep_of(scene: Scene, irq: VrcIrq) -> Sweep {
+    let at = scene.at;
+    let screen = screen_at(at, irq.prescalar_counter);
+    Sweep {
+        screen,
+        revision_b: scene.revision_b,
+        window: right_line(irq, scene.window, screen),
+        unmasked: scene.unmasked,
     }
 }
 
 // What the interrupt means for the window if the menu does not run.
-fn verdict_alone(irq: VrcIrq, window: u32) -> Verdict {
-    let came = came_alone(irq);
-    verdict_of(came, irq.prescalar_counter, right_line(irq, window))
-}
-
-// Whether what was asked is so. An empty menu leaves the slots as they are.
-fn is_right(ended: Ended, asked: [u32; 8], window: u32) -> bool {
-    let banks = ended.banks;
-    let after_menu = ended.after_menu;
-    let verdict = verdict_alone(ended.irq, window);
-    slots_right(banks, asked)
-        & slots_right(after_menu, asked)
-        & ((window == NO_WINDOW) | (verdict.mark == RIGHT))
+fn verdict_alone(irq: VrcIrq, sweep: Sweep) -> Verdict {
+    verdict_of(sweep.unmasked, came_alone(irq), sweep.screen, sweep.window)
 }
 
 // The window asked, or only where the interrupt comes.
@@ -66,17 +96,20 @@ fn put_clock(out: &mut [u8; ROOM], len: usize, pending: bool, came: Came) -> usi
     if pending {
         return put_text(out, len, b", pending at the end of the writes\n");
     }
-    match came {
-        Came::Never => put(out, len, b'\n'),
-        Came::On(clock) => {
-            let numbers = [clock];
-            put_form(out, len, b", clock %d\n", &numbers)
-        }
+    let numbers = [set_of(came)];
+    if let Came::Never = came {
+        return put(out, len, b'\n');
     }
+    put_form(out, len, b", clock %d\n", &numbers)
 }
 
-fn put_window(out: &mut [u8; ROOM], len: usize, irq: VrcIrq, window: u32) -> usize {
-    let verdict = verdict_alone(irq, window);
+fn put_window(
+    out: &mut [u8; ROOM],
+    len: usize,
+    window: u32,
+    irq: VrcIrq,
+    verdict: Verdict,
+) -> usize {
     let a = put_line(out, len, verdict, window != NO_WINDOW);
     put_clock(out, a, irq.irq_pending, came_alone(irq))
 }
@@ -92,49 +125,147 @@ fn put_not_swept(out: &mut [u8; ROOM], len: usize, pending: bool) -> usize {
     )
 }
 
-// The sweep, if there is an interrupt to come.
-fn sweep_menu(
-    given: Sweep,
+// Whether an interrupt comes to nothing: it never comes, or a handler with interrupts masked clears it itself.
+fn is_nothing(came: Came, unmasked: bool) -> bool {
+    match came {
+        Came::Never => true,
+        Came::On(clock) => false,
+        Came::Lost(set, cleared) => !unmasked,
+    }
+}
+
+// A menu where no interrupt is to come. It must not arm one: it is played at the end of the writes.
+fn check_arming(
+    sweep: Sweep,
     irq: VrcIrq,
     menu: &[u32],
     out: &mut [u8; ROOM],
     len: usize,
-    right: bool,
-) -> Outcome {
-    let pending = irq.irq_pending;
-    let clocks = clocks_due(irq);
-    if pending | (clocks == 0) {
-        return Outcome::played(right, 0, 0, put_not_swept(out, len, pending));
+) -> Checked {
+    let came = came_after(irq, 0, sweep.revision_b, menu);
+    if is_nothing(came, sweep.unmasked) {
+        return unswept(true, put_not_swept(out, len, false));
     }
-    let swept = sweep_clocks(given, irq, clocks, menu, out, len);
+    let clock = set_of(came);
+    let numbers = [line_of(sweep.screen, clock), clock];
+    let armed = put_form(
+        out,
+        len,
+        b"  menu: arms an interrupt where none was to come, on line %d, clock %d\n",
+        &numbers,
+    );
+    unswept(false, armed)
+}
+
+fn check_menu(
+    scene: Scene,
+    irq: VrcIrq,
+    asked: [u32; 8],
+    sweep: Sweep,
+    fixed: &[u8],
+    writes: &[u32],
+    menu: &[u32],
+    out: &mut [u8; ROOM],
+    len: usize,
+) -> Checked {
+    let clocks = clocks_due(irq);
+    if menu.len() == 0 {
+        return unswept(true, len);
+    }
+    if irq.irq_pending {
+        return unswept(true, put_not_swept(out, len, true));
+    }
+    if clocks == 0 {
+        return check_arming(sweep, irq, menu, out, len);
+    }
+    let inside = put_inside(scene, irq, asked, sweep, fixed, writes, menu, out, len);
+    let swept = sweep_clocks(sweep, irq, clocks, menu, out, inside.len);
     let tally = swept.tally;
     let wrong = tally.count;
     let found = put_found(out, swept);
-    Outcome::played(right & (wrong == 0), clocks, wrong, found)
+    Checked {
+        right: inside.right & (wrong == 0),
+        swept: true,
+        moments: clocks,
+        wrong,
+        len: found,
+    }
+}
+
+// Whether what was asked without the menu, and of the letters behind it, is so. An empty menu leaves the slots as they are.
+fn is_right(ended: Ended, asked: [u32; 8], window: u32, verdict: Verdict) -> bool {
+    let banks = ended.banks;
+    let after_menu = ended.after_menu;
+    slots_right(banks, asked)
+        & slots_right(after_menu, asked)
+        & ((window == NO_WINDOW) | (verdict.mark == RIGHT))
+}
+
+// A menu that is not right was asked about.
+fn kind_of(asked: [u32; 8], window: u32, menu: Checked, right: bool) -> u8 {
+    if !(right & menu.right) {
+        return WRONG_SCENE;
+    }
+    if (window == NO_WINDOW) & !are_asked(asked) & !menu.swept {
+        return UNASKED_SCENE;
+    }
+    RIGHT_SCENE
+}
+
+// The last line of a scene.
+fn put_kind(out: &mut [u8; ROOM], menu: Checked, kind: u8) -> Outcome {
+    let place = std::num::wrapping_sub_usize(kind as usize, WRONG_SCENE as usize);
+    let a = put_nth(
+        out,
+        menu.len,
+        b"  verdict: wrong|  verdict: right|  verdict: nothing asked",
+        place,
+    );
+    let numbers = [menu.moments, menu.wrong];
+    let mut b = a;
+    if menu.swept {
+        b = put_form(out, a, b", %d moments, %d wrong", &numbers);
+    }
+    let c = put(out, b, b'\n');
+    Outcome::played(kind, menu.moments, menu.wrong, c)
+}
+
+// The letters, behind the menu if there is one.
+fn put_after(
+    out: &mut [u8; ROOM],
+    len: usize,
+    ended: Ended,
+    asked: [u32; 8],
+    menu: &[u32],
+) -> usize {
+    let after_menu = ended.after_menu;
+    if menu.len() == 0 {
+        return len;
+    }
+    put_letters(out, len, AFTER_MENU, after_menu, asked)
 }
 
 pub(crate) fn check(
     scene: Scene,
     ended: Ended,
     asked: [u32; 8],
+    fixed: &[u8],
+    writes: &[u32],
     menu: &[u32],
     out: &mut [u8; ROOM],
     len: usize,
 ) -> Outcome {
     let irq = ended.irq;
     let banks = ended.banks;
-    let after_menu = ended.after_menu;
-    let right = is_right(ended, asked, scene.window);
-    let a = put_letters(out, len, false, banks, asked);
-    let b = put_window(out, a, irq, scene.window);
-    if menu.len() == 0 {
-        return Outcome::played(right, 0, 0, b);
-    }
-    let c = put_letters(out, b, true, after_menu, asked);
-    let given = Sweep {
-        prescaler: irq.prescalar_counter,
-        revision_b: scene.revision_b,
-        window: right_line(irq, scene.window),
-    };
-    sweep_menu(given, irq, menu, out, c, right)
+    let sweep = sweep_of(scene, irq);
+    let verdict = verdict_alone(irq, sweep);
+    let right = is_right(ended, asked, scene.window, verdict);
+    let a = put_letters(out, len, AT_END, banks, asked);
+    let b = put_window(out, a, scene.window, irq, verdict);
+    let c = put_changes(scene, irq, sweep.screen, verdict, fixed, writes, out, b);
+    let d = put_unreached(scene.revision_b, writes, menu, out, c);
+    let e = put_after(out, d, ended, asked, menu);
+    let checked = check_menu(scene, irq, asked, sweep, fixed, writes, menu, out, e);
+    let kind = kind_of(asked, scene.window, checked, right);
+    put_kind(out, checked, kind)
 }

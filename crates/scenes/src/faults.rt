@@ -3,6 +3,7 @@ use text_output::ROOM;
 use text_output::forms::put_form;
 use text_output::forms::put_nth;
 use text_output::put;
+use text_output::put_text;
 
 // The columns, by scene_cells' `column_of`.
 pub const SCENE: usize = 0;
@@ -25,8 +26,12 @@ pub const MENU: usize = 8;
 
 pub const FILE: usize = 9;
 
+pub const AT: usize = 10;
+
+pub const INTERRUPTS: usize = 11;
+
 // A fault of no column is one of the whole row.
-pub const NO_COLUMN: usize = 10;
+pub const NO_COLUMN: usize = 12;
 
 // What is wrong with a row or a cell, by its place in the texts of `put_fault`. Scene_cells' numbers are the first; 0 is nothing.
 pub const BEHIND_A_QUOTE: usize = 3;
@@ -62,6 +67,11 @@ pub const FILE_UNREAD: usize = 18;
 
 pub const FILE_REFUSED: usize = 19;
 
+pub const NO_INTERRUPTS: usize = 20;
+
+// Scene_steps' numbers of places in the picture stand behind this one.
+pub const PLACES: usize = 20;
+
 // Where a fault is: the row, the column, and whether the cell is in quotes.
 pub struct Place {
     pub row: u32,
@@ -76,9 +86,21 @@ fn put_place(out: &mut [u8; ROOM], len: usize, row: u32, column: usize) -> usize
     put_nth(
         out,
         a,
-        b", scene: |, prg: |, chr: |, revision: |, mirroring: |, writes: |, window: |, letters: |, menu: |, file: |: ",
+        b", scene: |, prg: |, chr: |, revision: |, mirroring: |, writes: |, window: |, letters: |, menu: |, file: |, at: |, interrupts: |: ",
         column,
     )
+}
+
+// A byte of a cell. Control characters are written as \xHH, so that a cell stays on its line; a backslash is doubled.
+fn put_byte(out: &mut [u8; ROOM], len: usize, byte: u8) -> usize {
+    let numbers = [byte as u32];
+    if (byte < 32) | (byte == 127) {
+        return put_form(out, len, b"\\x%h", &numbers);
+    }
+    if byte == b'\\' {
+        return put_text(out, len, b"\\\\");
+    }
+    put(out, len, byte)
 }
 
 // A cell's bytes; in quotes a doubled quote stands for one.
@@ -90,7 +112,7 @@ pub(crate) fn put_cell(out: &mut [u8; ROOM], len: usize, cell: &[u8], quoted: bo
         let byte = cell[i];
         half = quoted & (byte == b'"') & !half;
         if !half {
-            n = put(out, n, byte);
+            n = put_byte(out, n, byte);
         }
         i += 1;
     }
@@ -158,7 +180,11 @@ pub(crate) fn put_word_fault(
         |' is more than one word\n\
         |' is not what the file says, \
         |' can't be read\n\
-        |' is ",
+        |' is \
+        |' is neither masked nor open\n\
+        |' is no line of 0 to 261\n\
+        |' has no dot of 0 to 340\n\
+        |' is more than one word\n",
         fault,
     )
 }

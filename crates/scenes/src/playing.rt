@@ -1,9 +1,11 @@
 // A scene on a board of its own. A board that was created refuses no call: `Demand3` in crate vrc6_ledger.
+use crate::scene::MOST_STEPS;
 use crate::scene::Scene;
 use host_creation::NumberedSettings;
 use irq::VrcIrq;
 use scene_board::ended::Ended;
 use scene_board::ended::play_scene;
+use scene_board::inside::mark_letters;
 
 fn none() -> Ended {
     Ended {
@@ -52,4 +54,37 @@ pub(crate) fn play_steps(scene: Scene, fixed: &[u8], writes: &[u32], menu: &[u32
         }
     }
     none()
+}
+
+// Which steps of the menu begin with wrong letters.
+pub(crate) fn mark_menu(
+    scene: Scene,
+    fixed: &[u8],
+    writes: &[u32],
+    menu: &[u32],
+    asked: [u32; 8],
+) -> [u8; MOST_STEPS] {
+    let layout = scene.layout;
+    let settings = settings_of(scene);
+    let mut changing = ram();
+    let mut marks = [0u8; MOST_STEPS];
+    if layout.within_limits() {
+        let n = layout.fixed_length() as usize;
+        let m = layout.changing_length() as usize;
+        if n <= fixed.len() {
+            if m <= MOST_RAM {
+                mark_letters(
+                    layout,
+                    settings,
+                    &fixed[0..n],
+                    &mut changing[0..m],
+                    writes,
+                    menu,
+                    asked,
+                    &mut marks,
+                );
+            }
+        }
+    }
+    marks
 }

@@ -1,13 +1,17 @@
 // The cells of a row read as a scene. It reports each fault, so a row's faults are all seen at once.
+use crate::faults::AT;
 use crate::faults::CHR;
+use crate::faults::INTERRUPTS;
 use crate::faults::LETTERS;
 use crate::faults::MANY_WORDS;
 use crate::faults::MENU;
 use crate::faults::MIRRORING;
 use crate::faults::NO_DECIMAL;
+use crate::faults::NO_INTERRUPTS;
 use crate::faults::NO_MIRRORING;
 use crate::faults::NO_REVISION;
 use crate::faults::NOT_THE_FILE;
+use crate::faults::PLACES;
 use crate::faults::PRG;
 use crate::faults::Place;
 use crate::faults::REVISION;
@@ -27,6 +31,9 @@ use scene_files::said::layout_for;
 use scene_files::said::said_in;
 use scene_files::singles::Single;
 use scene_files::singles::single_of;
+use scene_steps::picture;
+use scene_steps::picture::At;
+use scene_steps::picture::at_in;
 use text_output::ROOM;
 use text_words::next_word;
 
@@ -42,6 +49,7 @@ fn no_value(column: usize) -> usize {
     match column {
         REVISION => NO_REVISION,
         MIRRORING => NO_MIRRORING,
+        INTERRUPTS => NO_INTERRUPTS,
         _ => NO_DECIMAL,
     }
 }
@@ -57,10 +65,18 @@ fn fault_of(single: Single, column: usize) -> usize {
     }
 }
 
-// What stands for an empty cell. No cartridge says a window.
+// Whether a cartridge says nothing in a column.
+fn is_unsaid(column: usize) -> bool {
+    (column == WINDOW) | (column == INTERRUPTS)
+}
+
+// What stands for an empty cell. A handler is taken to leave interrupts masked.
 fn said_for(source: Source, column: usize) -> u32 {
     if column == WINDOW {
         return NO_WINDOW;
+    }
+    if column == INTERRUPTS {
+        return 0;
     }
     let cartridge = source.cartridge;
     said_in(cartridge, (column % 256) as u8)
@@ -71,8 +87,24 @@ fn single_in(text: &[u8], starts: Starts, source: Source, column: usize) -> Sing
     let from = span.from;
     let to = span.to;
     let said = said_for(source, column);
-    let from_file = source.from_file & (column != WINDOW);
+    let from_file = source.from_file & !is_unsaid(column);
     single_of(&text[from..to], (column % 256) as u8, said, from_file)
+}
+
+// Where the writes end.
+fn at_cell(text: &[u8], starts: Starts) -> At {
+    let span = cell_in(text, starts, AT);
+    let from = span.from;
+    let to = span.to;
+    at_in(&text[from..to])
+}
+
+// What is wrong with it, 0 for nothing.
+fn at_fault(at: At) -> usize {
+    if let At::Wrong(number) = at {
+        return PLACES + number as usize;
+    }
+    0
 }
 
 // The cells of one word.
@@ -82,11 +114,15 @@ fn read_singles(text: &[u8], starts: Starts, source: Source) -> Scene {
     let revision = single_in(text, starts, source, REVISION);
     let mirroring = single_in(text, starts, source, MIRRORING);
     let window = single_in(text, starts, source, WINDOW);
+    let interrupts = single_in(text, starts, source, INTERRUPTS);
+    let at = at_cell(text, starts);
     let good = (fault_of(prg, PRG) == 0)
         & (fault_of(chr, CHR) == 0)
         & (fault_of(revision, REVISION) == 0)
         & (fault_of(mirroring, MIRRORING) == 0)
-        & (fault_of(window, WINDOW) == 0);
+        & (fault_of(window, WINDOW) == 0)
+        & (fault_of(interrupts, INTERRUPTS) == 0)
+        & (at_fault(at) == 0);
     let cartridge = source.cartridge;
     let layout = layout_for(cartridge, source.from_file, value_of(prg), value_of(chr));
     Scene {
@@ -94,6 +130,8 @@ fn read_singles(text: &[u8], starts: Starts, source: Source) -> Scene {
         revision_b: value_of(revision) == 1,
         mirroring: value_of(mirroring),
         window: value_of(window),
+        at,
+        unmasked: value_of(interrupts) == 1,
         writes: 0,
         menu: 0,
         good: good & (source.fault == 0),
@@ -103,13 +141,21 @@ fn read_singles(text: &[u8], starts: Starts, source: Source) -> Scene {
 
 // What a fault shows of a cell: its word, or all of it if it has more than one.
 fn shown(cell: &[u8], fault: usize) -> &[u8] {
-    if fault == MANY_WORDS {
+    if (fault == MANY_WORDS) | (fault == PLACES + picture::MANY_WORDS as usize) {
         return cell;
     }
     let word = next_word(cell, 0);
     let from = word.from;
     let to = word.to;
     &cell[from..to]
+}
+
+// What is wrong with the cell of one word in a column.
+fn cell_fault(text: &[u8], starts: Starts, source: Source, column: usize) -> usize {
+    if column == AT {
+        return at_fault(at_cell(text, starts));
+    }
+    fault_of(single_in(text, starts, source, column), column)
 }
 
 fn put_single(
@@ -125,7 +171,7 @@ fn put_single(
     let from = span.from;
     let to = span.to;
     let cell = &text[from..to];
-    let fault = fault_of(single_in(text, starts, source, column), column);
+    let fault = cell_fault(text, starts, source, column);
     let at = Place {
         row,
         column,
@@ -147,10 +193,10 @@ fn put_singles(
     source: Source,
     row: u32,
 ) -> usize {
-    let columns = [PRG, CHR, REVISION, MIRRORING, WINDOW];
+    let columns = [PRG, CHR, REVISION, MIRRORING, WINDOW, AT, INTERRUPTS];
     let mut n = len;
     let mut i: usize = 0;
-    while i < 5 {
+    while i < 7 {
         n = put_single(out, n, text, starts, source, row, columns[i]);
         i += 1;
     }

@@ -9,34 +9,43 @@ use scene_cells::columns::column_of;
 use scene_cells::lookup::cell_under;
 use scene_cells::lookup::nth_cell;
 use text_output::ROOM;
+use text_words::is_empty;
 ghost use Prim.Native.Nat.{_%_};
 ghost use Rattle.scene_cells.specs.Rows.{CellUnder};
 
-// Where the header and a row start.
+// Where the header and a row start, and what stands between cells.
 pub struct Starts {
     pub header: usize,
     pub row: usize,
+    pub separator: u8,
 }
 
-// A row's end, how many cells it has, whether one of them is not empty, what is wrong, and the output buffer's bytes.
+// A row's end, how many cells were read, how many it has up to the last that is not blank, what is wrong, and the output buffer's
+// bytes.
 pub struct Row {
     pub next: usize,
     pub cells: usize,
-    pub filled: bool,
+    pub filled: usize,
     pub good: bool,
     pub len: usize,
 }
 
 // The row's cell in a column.
 pub(crate) fn cell_in(text: &[u8], starts: Starts, column: usize) -> Cell
-    ensures { λ r. ⌜ CellUnder (now (text .entry)) (starts .header) (starts .row) (column % 256) r ⌝ }
+    ensures { λ r. ⌜ CellUnder (now (text .entry)) (starts .separator) (starts .header) (starts .row) (column % 256) r ⌝ }
 {
-    cell_under(text, starts.header, starts.row, (column % 256) as u8)
+    cell_under(
+        text,
+        starts.header,
+        starts.row,
+        (column % 256) as u8,
+        starts.separator,
+    )
 }
 
 // The column of the header cell that has k cells before it, or NO_COLUMN.
-fn column_at(text: &[u8], header: usize, k: usize) -> usize {
-    let cell = nth_cell(text, header, k);
+fn column_at(text: &[u8], starts: Starts, k: usize) -> usize {
+    let cell = nth_cell(text, starts.header, k, starts.separator);
     let from = cell.from;
     let to = cell.to;
     column_of(&text[from..to]) as usize
@@ -58,15 +67,16 @@ fn take(
     out: &mut [u8; ROOM],
     number: u32,
     cell: Cell,
+    bytes: &[u8],
 ) -> Row {
     let mut row = given;
     row.next = cell.next;
     row.cells = std::num::wrapping_add_usize(given.cells, 1);
-    if (cell.from != cell.to) | cell.quoted {
-        row.filled = true;
+    if !is_empty(bytes) {
+        row.filled = row.cells;
     }
     if cell.wrong != 0 {
-        let column = column_at(text, starts.header, given.cells);
+        let column = column_at(text, starts, given.cells);
         let fault = quote_fault(column, cell.wrong);
         row.good = false;
         row.len = put_fault(out, given.len, number, column, fault);
@@ -85,15 +95,17 @@ pub(crate) fn read_row(
     let mut row = Row {
         next: starts.row,
         cells: 0,
-        filled: false,
+        filled: 0,
         good: true,
         len,
     };
     let mut left = std::num::wrapping_add_usize(text.len(), 1);
     while left > 0 {
         left -= 1;
-        let cell = cell_at(text, row.next);
-        row = take(row, text, starts, out, number, cell);
+        let cell = cell_at(text, row.next, starts.separator);
+        let from = cell.from;
+        let to = cell.to;
+        row = take(row, text, starts, out, number, cell, &text[from..to]);
         if cell.last {
             break;
         }

@@ -76,7 +76,7 @@ fn play_scene(
         let refused = put_text(out, len, b"  no board takes these lengths\n");
         return Outcome::unplayed(BAD_ROW, refused);
     }
-    check(scene, ended, asked, menu, out, len)
+    check(scene, ended, asked, fixed, writes, menu, out, len)
 }
 
 fn play_cells(
@@ -114,10 +114,10 @@ fn play_cells(
 
 // Why a row whose quotes are right is not played.
 fn row_fault(row: Row, cells: usize) -> usize {
-    if !row.filled {
+    if row.filled == 0 {
         return BLANK;
     }
-    if cells < row.cells {
+    if cells < row.filled {
         return MANY_CELLS;
     }
     0
@@ -162,10 +162,10 @@ fn tell(row: u32, moments: u64, told: u64) -> u64 {
 }
 
 // Each number with what it counts, which has a name for several and a name for 1.
-fn put_counts(out: &mut [u8; ROOM], len: usize, counts: [u64; 5]) -> usize {
+fn put_counts(out: &mut [u8; ROOM], len: usize, counts: [u64; 7]) -> usize {
     let mut n = len;
     let mut i: usize = 0;
-    while i < 5 {
+    while i < 7 {
         let count = counts[i];
         let mut name = 2 * i;
         if count == 1 {
@@ -177,6 +177,8 @@ fn put_counts(out: &mut [u8; ROOM], len: usize, counts: [u64; 5]) -> usize {
             n,
             b" scenes, | scene, \
             | right, | right, \
+            | wrong, | wrong, \
+            | with nothing asked, | with nothing asked, \
             | moments swept, | moment swept, \
             | wrong\n| wrong\n\
             | bad rows\n| bad row\n",
@@ -191,8 +193,10 @@ fn finish(totals: Totals, out: &mut [u8; ROOM]) {
     let counts = [
         totals.scenes as u64,
         totals.right as u64,
+        totals.wrong as u64,
+        totals.unasked as u64,
         totals.moments,
-        totals.wrong,
+        totals.missed,
         totals.bad as u64,
     ];
     let len = put_counts(out, totals.len, counts);
@@ -218,6 +222,7 @@ fn play_rows(
         let starts = Starts {
             header: header.start,
             row: at,
+            separator: header.separator,
         };
         let number = totals.next_row();
         let row = read_row(text, starts, out, totals.len, number);
@@ -229,8 +234,8 @@ fn play_rows(
     totals
 }
 
-fn has_writes(text: &[u8], header: usize) -> bool {
-    match find_column(text, header, WRITES as u8) {
+fn has_writes(text: &[u8], header: HeaderRow) -> bool {
+    match find_column(text, header.start, WRITES as u8, header.separator) {
         Found::At(_) => true,
         Found::Missing => false,
     }
@@ -241,19 +246,37 @@ const TOO_LONG: usize = 1;
 
 const EMPTY: usize = 2;
 
-const NO_WRITES: usize = 3;
+const UTF16: usize = 3;
+
+const NO_WRITES: usize = 4;
 
 // What is wrong with the header was told already, so it has no text.
-const BAD_HEADER: usize = 4;
+const BAD_HEADER: usize = 5;
 
-fn sheet_fault(header: HeaderRow, text: &[u8]) -> usize {
+// Whether a text begins with the mark of UTF-16, in either order of its two bytes.
+fn is_utf16(text: &[u8]) -> bool {
+    if text.len() < 2 {
+        return false;
+    }
+    ((text[0] == 0xFF) & (text[1] == 0xFE)) | ((text[0] == 0xFE) & (text[1] == 0xFF))
+}
+
+// Why a text can't be read at all.
+fn text_fault(text: &[u8]) -> usize {
     if MOST_BYTES < text.len() {
         return TOO_LONG;
     }
     if text.len() == 0 {
         return EMPTY;
     }
-    if !has_writes(text, header.start) {
+    if is_utf16(text) {
+        return UTF16;
+    }
+    0
+}
+
+fn header_fault(header: HeaderRow, text: &[u8]) -> usize {
+    if !has_writes(text, header) {
         return NO_WRITES;
     }
     if !header.good {
@@ -268,18 +291,25 @@ fn put_sheet_fault(out: &mut [u8; ROOM], len: usize, fault: usize) {
         len,
         b"|the sheet is longer than 2097152 bytes\n\
         |the sheet is empty\n\
+        |the sheet is UTF-16; save it as CSV UTF-8\n\
         |row 1: no column is named 'writes'\n",
         fault,
     );
-    flush(out, n);
+    let m = put_text(out, n, b"nothing was played\n");
+    flush(out, m);
 }
 
 // Plays the sheet with this path and text.
 pub(crate) fn run(sheet: &[u8], text: &[u8]) {
     let fixed = rom();
     let mut out = [0u8; ROOM];
+    let unread = text_fault(text);
+    if unread != 0 {
+        put_sheet_fault(&mut out, 0, unread);
+        return;
+    }
     let header = read_header_row(text, &mut out, 0);
-    let fault = sheet_fault(header, text);
+    let fault = header_fault(header, text);
     if fault == 0 {
         let totals = play_rows(header, sheet, text, &fixed, &mut out);
         finish(totals, &mut out);

@@ -1,5 +1,6 @@
 // A scene, as the cells of its row say it.
 use memory_layout::MemoryLayout;
+use scene_steps::picture::At;
 
 // No window is given.
 pub const NO_WINDOW: u32 = 0xFFFF_FFFF;
@@ -13,6 +14,9 @@ pub struct Scene {
     // 0 to 4 in the Rust's order.
     pub mirroring: u32,
     pub window: u32,
+    pub at: At,
+    // Whether the menu's handler leaves interrupts open.
+    pub unmasked: bool,
     // How many steps.
     pub writes: usize,
     pub menu: usize,

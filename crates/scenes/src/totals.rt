@@ -9,8 +9,11 @@ pub const WRONG_SCENE: u8 = 2;
 
 pub const RIGHT_SCENE: u8 = 3;
 
+// A scene that asks nothing: no window, no letters, and no sweep.
+pub const UNASKED_SCENE: u8 = 4;
+
 pub struct Outcome {
-    // One of the four above.
+    // One of the five above.
     pub kind: u8,
     // How many moments were swept, and how many of them were wrong.
     pub moments: u32,
@@ -29,11 +32,7 @@ impl Outcome {
         }
     }
 
-    pub(crate) fn played(right: bool, moments: u32, wrong: u32, len: usize) -> Outcome {
-        let mut kind = WRONG_SCENE;
-        if right {
-            kind = RIGHT_SCENE;
-        }
+    pub(crate) fn played(kind: u8, moments: u32, wrong: u32, len: usize) -> Outcome {
         Outcome {
             kind,
             moments,
@@ -50,9 +49,11 @@ pub struct Totals {
     pub row: u32,
     pub scenes: u32,
     pub right: u32,
-    // A sheet can have more moments than 32 bits count.
+    pub wrong: u32,
+    pub unasked: u32,
+    // A sheet can have more moments than 32 bits count. The second counts those that are wrong.
     pub moments: u64,
-    pub wrong: u64,
+    pub missed: u64,
     pub bad: u32,
 }
 
@@ -67,8 +68,10 @@ impl Totals {
             row: 1,
             scenes: 0,
             right: 0,
-            moments: 0,
             wrong: 0,
+            unasked: 0,
+            moments: 0,
+            missed: 0,
             bad: 0,
         }
     }
@@ -84,8 +87,10 @@ impl Totals {
         self.row = sum(self.row, 1);
         self.scenes = sum(self.scenes, (WRONG_SCENE <= kind) as u32);
         self.right = sum(self.right, (kind == RIGHT_SCENE) as u32);
+        self.wrong = sum(self.wrong, (kind == WRONG_SCENE) as u32);
+        self.unasked = sum(self.unasked, (kind == UNASKED_SCENE) as u32);
         self.moments = std::num::wrapping_add_u64(self.moments, row.moments as u64);
-        self.wrong = std::num::wrapping_add_u64(self.wrong, row.wrong as u64);
+        self.missed = std::num::wrapping_add_u64(self.missed, row.wrong as u64);
         self.bad = sum(self.bad, (kind == BAD_ROW) as u32);
         self
     }

@@ -1,6 +1,7 @@
 // Text by a form: what stands in it as it is, and numbers put where it has marks.
 use crate::ROOM;
 use crate::put;
+use crate::put_capitals;
 use crate::put_digits;
 use crate::put_hexadecimal;
 use crate::put_number;
@@ -8,12 +9,14 @@ use crate::put_text;
 ghost use Prim.Native.Nat.{_≤_};
 ghost use lib.ListN.{length};
 
-// A number in the way that the letter behind a `%` says: d decimal, x hexadecimal, b two hexadecimal digits, w eight, c as a byte.
+// A number in the way that the letter behind a `%` says: d decimal, x hexadecimal, b two hexadecimal digits, h two in capitals, w eight,
+// c as a byte.
 fn put_marked(out: &mut [u8; ROOM], len: usize, letter: u8, n: u32) -> usize {
     match letter {
         b'd' => put_number(out, len, n),
         b'x' => put_hexadecimal(out, len, n),
         b'b' => put_digits(out, len, n % 256 * 0x100_0000, 2),
+        b'h' => put_capitals(out, len, n),
         b'w' => put_digits(out, len, n, 8),
         _ => put(out, len, (n % 256) as u8),
     }

@@ -124,3 +124,18 @@ pub fn put_digits(out: &mut [u8; ROOM], len: usize, n: u32, count: u32) -> usize
     }
     l
 }
+
+// A hexadecimal digit in capitals.
+fn capital(digit: u32) -> u8 {
+    let d = (digit % 16) as u8;
+    if d < 10 {
+        return b'0' + d;
+    }
+    b'A' + (d - 10)
+}
+
+// The last two hexadecimal digits of a number, in capitals.
+pub fn put_capitals(out: &mut [u8; ROOM], len: usize, n: u32) -> usize {
+    let a = put(out, len, capital(n / 16));
+    put(out, a, capital(n))
+}

@@ -26,3 +26,11 @@ pastWord s = fromFirst true s
 -- the word that a text begins with
 abbrev pub wordOf : List ℕ → List ℕ
 wordOf s = take (length s - length (pastWord s)) s
+
+-- a text has no word (docs/SCENES.md)
+abbrev pub isEmpty : List ℕ → Bool
+isEmpty text = eqb (length (wordOf (fromWord text))) 0
+
+-- the only word of a text; no byte where it has none or several (docs/SCENES.md)
+abbrev pub onlyWord : List ℕ → List ℕ
+onlyWord text = cond (isEmpty (pastWord (fromWord text))) (wordOf (fromWord text)) []

@@ -5,8 +5,8 @@ pub mod number;
 ghost use mathlib.Core.Path.{_≡_};
 ghost use Prim.Native.Nat.{_≤_};
 ghost use lib.ListN.{drop, length};
-ghost use Rattle.text_words.specs.Words.{isBlank};
-ghost use Rattle.text_words.specs.Places.{FirstPlace, Found};
+ghost use Rattle.text_words.specs.Words.{isBlank, isEmpty, onlyWord};
+ghost use Rattle.text_words.specs.Places.{FirstPlace, Found, WordAt};
 
 // Where a word starts and ends; at the line's end there is none, and both are equal.
 pub struct Word {
@@ -50,4 +50,25 @@ pub fn next_word(line: &[u8], from: usize) -> Word
         from: start,
         to: stop,
     }
+}
+
+// Whether a text has no word.
+pub fn is_empty(text: &[u8]) -> bool
+    ensures { λ r. ⌜ r ≡ isEmpty (now (text .entry)) ⌝ }
+{
+    let word = next_word(text, 0);
+    word.from == word.to
+}
+
+// The only word of a text; without a byte where it has none or several.
+pub fn only_word(text: &[u8]) -> Word
+    ensures { λ r. ⌜ WordAt (now (text .entry)) (onlyWord (now (text .entry))) (r .from) (r .to) ⌝ }
+{
+    let word = next_word(text, 0);
+    let to = word.to;
+    let more = next_word(text, to);
+    if more.from == more.to {
+        return word;
+    }
+    Word { from: to, to }
 }

@@ -16,7 +16,8 @@ fn small(byte: u8) -> u8
     byte
 }
 
-fn same_name(a: &[u8], b: &[u8]) -> bool
+// Whether two names are equal.
+pub fn same_name(a: &[u8], b: &[u8]) -> bool
     ensures { λ r. ⌜ r ≡ sameName (now (a .entry)) (now (b .entry)) ⌝ }
 {
     if a.len() != b.len() {

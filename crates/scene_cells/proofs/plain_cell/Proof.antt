@@ -1,14 +1,11 @@
 -- `plain_cell` meets its contract. Assumes nothing.
-use borrow.Author.Needs.{needs}
 use Rattle.scene_cells.proofs.Contents.{plain}
+use borrow.Author.Needs.{needs}
 use Rattle.scene_cells.proofs.plain_cell.Statement.{statement}
 use Rattle.scene_cells.proofs.plain_cell.Tie as tie
 
 break-from-requires : tie.Need-break-from-requires
 break-from-requires c κs = search needs
-
-without-return-requires : tie.Need-without-return-requires
-without-return-requires c κs = search needs
 
 after-requires : tie.Need-after-requires
 after-requires c κs = search needs
@@ -17,9 +14,7 @@ ends-row-requires : tie.Need-ends-row-requires
 ends-row-requires c κs = search needs
 
 returns : tie.Need-returns
-returns c = plain _ _ _ _ _ _ (c .before .before .before .break-from .ensures) (c .before .before .without-return .ensures) (c .before .after .ensures) (c .ends-row .ensures)
+returns c = plain _ _ _ _ _ _ (c .before .before .break-from .ensures) (c .before .after .ensures) (c .ends-row .ensures)
 
 pub plain-cell-spec : {M : Type 1} → statement M
-plain-cell-spec =
-    tie.close
-    (tie.spec break-from-requires without-return-requires after-requires ends-row-requires returns)
+plain-cell-spec = tie.close (tie.spec break-from-requires after-requires ends-row-requires returns)

@@ -1,6 +1,6 @@
 -- `quoted_cell` meets its contract. Assumes nothing.
-use borrow.Author.Needs.{needs}
 use Rattle.scene_cells.proofs.Contents.{unclosed, closed-at}
+use borrow.Author.Needs.{needs}
 use Rattle.scene_cells.proofs.quoted_cell.Statement.{statement}
 use Rattle.scene_cells.proofs.quoted_cell.Tie as tie
 
@@ -11,7 +11,7 @@ closing-quote-requires : tie.Need-closing-quote-requires
 closing-quote-requires c κs = search needs
 
 returns : tie.Need-returns
-returns c = unclosed _ _ _ (c .before .closing-quote .ensures) (c .if1 .taken)
+returns c = unclosed _ _ _ _ (c .before .closing-quote .ensures) (c .if1 .taken)
 
 add-behind : tie.Need-add-behind
 add-behind c = search needs
@@ -29,7 +29,7 @@ wrong-behind-requires : tie.Need-wrong-behind-requires
 wrong-behind-requires c κs = search needs
 
 returns-2 : tie.Need-returns-2
-returns-2 c = closed-at _ _ _ (c .before .before .before .before .before .closing-quote .ensures) (c .before .before .before .before .if1 .left) _ _ _ _ (c .before .before .before .break-from .ensures) (c .before .before .after .ensures) (c .before .ends-row .ensures) (c .wrong-behind .ensures)
+returns-2 c = closed-at _ _ _ _ (c .before .before .before .before .before .closing-quote .ensures) (c .before .before .before .before .if1 .left) _ _ _ _ (c .before .before .before .break-from .ensures) (c .before .before .after .ensures) (c .before .ends-row .ensures) (c .wrong-behind .ensures)
 
 pub quoted-cell-spec : {M : Type 1} → statement M
 quoted-cell-spec =

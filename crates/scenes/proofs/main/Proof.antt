@@ -13,14 +13,8 @@ abbrev μ-loop : tie.MeasureT-loop
 arg-count-requires : tie.Need-arg-count-requires Inv-loop μ-loop
 arg-count-requires c κs = search needs
 
-slice-aggregate-play : tie.Need-slice-aggregate-play Inv-loop μ-loop
-slice-aggregate-play c = search needs
-
-slice-aggregate-play-2 : tie.Need-slice-aggregate-play-2 Inv-loop μ-loop
-slice-aggregate-play-2 c = search needs
-
-play-requires : tie.Need-play-requires Inv-loop μ-loop
-play-requires c κs = search needs
+play-input-requires : tie.Need-play-input-requires Inv-loop μ-loop
+play-input-requires c κs = search needs
 
 returns : tie.Need-returns Inv-loop μ-loop
 returns c = search needs
@@ -50,9 +44,7 @@ main-spec =
     Inv-loop
     μ-loop
     arg-count-requires
-    slice-aggregate-play
-    slice-aggregate-play-2
-    play-requires
+    play-input-requires
     returns
     loop-holds
     play-argument-requires

@@ -21,10 +21,10 @@ no-cell-requires : tie.Need-no-cell-requires
 no-cell-requires c κs = search needs
 
 returns : tie.Need-returns
-returns c = under _ _ _ _ _ (At (c .before .before .k .given .0 .0)) _ (c .before .before .before .before .find-column .ensures) (c .before .before .k .given .1) (c .nth-cell .ensures)
+returns c = under _ _ _ _ _ _ (At (c .before .before .k .given .0 .0)) _ (c .before .before .before .before .find-column .ensures) (c .before .before .k .given .1) (c .nth-cell .ensures)
 
 returns-2 : tie.Need-returns-2
-returns-2 c = under _ _ _ _ _ Missing _ (c .before .before .before .find-column .ensures) (c .before .enum-told .given .1) (c .no-cell .ensures)
+returns-2 c = under _ _ _ _ _ _ Missing _ (c .before .before .before .find-column .ensures) (c .before .enum-told .given .1) (c .no-cell .ensures)
 
 pub cell-under-spec : {M : Type 1} → statement M
 cell-under-spec =

@@ -8,13 +8,13 @@ use Rattle.scene_cells.proofs.lookup.find_column.Statement.{statement}
 use Rattle.scene_cells.proofs.lookup.find_column.Tie as tie
 
 abbrev Inv-loop : tie.InvT-loop
-Inv-loop text header column at₀ k₀ at k = Passed text column header at k
+Inv-loop text header column separator at₀ k₀ at k = Passed text separator column header at k
 
 abbrev μ-loop : tie.MeasureT-loop
-μ-loop text header column at₀ k₀ at k = length text - at
+μ-loop text header column separator at₀ k₀ at k = length text - at
 
 loop-holds : tie.Need-loop-holds Inv-loop μ-loop
-loop-holds c = start _ _ _
+loop-holds c = start _ _ _ _
 
 cell-at-requires : tie.Need-cell-at-requires Inv-loop μ-loop
 cell-at-requires c κs = search needs
@@ -32,19 +32,19 @@ column-of-requires : tie.Need-column-of-requires Inv-loop μ-loop
 column-of-requires c κs = search needs
 
 returns : tie.Need-returns Inv-loop μ-loop
-returns c = found _ _ _ _ _ (c .before .before .before .before .loop .inv) _ (c .before .before .before .cell-at .ensures) _ (c .before .column-of .ensures) (c .if1 .taken)
+returns c = found _ _ _ _ _ _ (c .before .before .before .before .loop .inv) _ (c .before .before .before .cell-at .ensures) _ (c .before .column-of .ensures) (c .if1 .taken)
 
 returns-2 : tie.Need-returns-2 Inv-loop μ-loop
-returns-2 c = missing _ _ _ _ _ (c .before .before .before .before .before .loop .inv) _ (c .before .before .before .before .cell-at .ensures) _ (c .before .before .column-of .ensures) (c .before .if1 .left) (c .if2 .taken)
+returns-2 c = missing _ _ _ _ _ _ (c .before .before .before .before .before .loop .inv) _ (c .before .before .before .before .cell-at .ensures) _ (c .before .before .column-of .ensures) (c .before .if1 .left) (c .if2 .taken)
 
 add-k : tie.Need-add-k Inv-loop μ-loop
-add-k c = omega (arith, c .before .before .before .before .before .loop .inv .low, before-end _ _ _ (c .before .before .before .before .cell-at .ensures) (c .if2 .left))
+add-k c = omega (arith, c .before .before .before .before .before .loop .inv .low, before-end _ _ _ _ (c .before .before .before .before .cell-at .ensures) (c .if2 .left))
 
 loop-less : tie.Need-loop-less Inv-loop μ-loop
-loop-less c = omega (arith, c .before .before .before .before .cell-at .ensures .next-within, c .before .before .before .before .cell-at .ensures .past (before-end _ _ _ (c .before .before .before .before .cell-at .ensures) (c .if2 .left)))
+loop-less c = omega (arith, c .before .before .before .before .cell-at .ensures .next-within, c .before .before .before .before .cell-at .ensures .past (before-end _ _ _ _ (c .before .before .before .before .cell-at .ensures) (c .if2 .left)))
 
 loop-again : tie.Need-loop-again Inv-loop μ-loop
-loop-again c = more _ _ _ _ _ (c .before .before .before .before .before .loop .inv) _ (c .before .before .before .before .cell-at .ensures) _ (c .before .before .column-of .ensures) (c .before .if1 .left) (c .if2 .left)
+loop-again c = more _ _ _ _ _ _ (c .before .before .before .before .before .loop .inv) _ (c .before .before .before .before .cell-at .ensures) _ (c .before .before .column-of .ensures) (c .before .if1 .left) (c .if2 .left)
 
 pub find-column-spec : {M : Type 1} → statement M
 find-column-spec =

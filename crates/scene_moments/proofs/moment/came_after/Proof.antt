@@ -1,62 +1,46 @@
 -- `came_after` meets its contract. Assumes nothing.
-use mathlib.Core.Path.{ap, _∙_}
-use Prim.Native.Nat.{_-_}
+use Rattle.scene_moments.proofs.Handling.{after-it, before-it}
 use borrow.Author.Needs.{needs}
-use lib.ListN.{length}
-use Rattle.scene_moments.specs.Moments.{ended}
-use Rattle.scene_moments.proofs.Handling.{Done, none, more, all}
 use Rattle.scene_moments.proofs.moment.came_after.Statement.{statement}
 use Rattle.scene_moments.proofs.moment.came_after.Tie as tie
 
-abbrev Inv-loop : tie.InvT-loop
-Inv-loop clock revision codes m₀ i₀ m i = Done revision codes m₀ m i
+until-set-requires : tie.Need-until-set-requires
+until-set-requires c κs = search needs
 
-abbrev μ-loop : tie.MeasureT-loop
-μ-loop clock revision codes m₀ i₀ m i = length codes - i
+mul-end-pending : tie.Need-mul-end-pending
+mul-end-pending c = search needs
 
-loop-holds : tie.Need-loop-holds Inv-loop μ-loop
-loop-holds c = none _ _ _
+sub-end-pending : tie.Need-sub-end-pending
+sub-end-pending c = search needs
 
-mul-step-coded : tie.Need-mul-step-coded Inv-loop μ-loop
-mul-step-coded c = search needs
+part-end-pending-start : tie.Need-part-end-pending-start
+part-end-pending-start c = search needs
 
-shared-slice-read-step-coded : tie.Need-shared-slice-read-step-coded Inv-loop μ-loop
-shared-slice-read-step-coded c = search needs
+part-end-pending-end : tie.Need-part-end-pending-end
+part-end-pending-end c = search needs
 
-step-coded-requires : tie.Need-step-coded-requires Inv-loop μ-loop
-step-coded-requires c κs = tt
+end-pending-requires : tie.Need-end-pending-requires
+end-pending-requires c κs = search needs
 
-play-requires : tie.Need-play-requires Inv-loop μ-loop
-play-requires c κs = tt
+returns : tie.Need-returns
+returns c = after-it _ _ _ _ (c .before .before .before .before .until-set .ensures) _ (c .end-pending .ensures)
 
-add-i : tie.Need-add-i Inv-loop μ-loop
-add-i c = search needs
+end-requires : tie.Need-end-requires
+end-requires c κs = search needs
 
-loop-less : tie.Need-loop-less Inv-loop μ-loop
-loop-less c = search needs
-
-loop-again : tie.Need-loop-again Inv-loop μ-loop
-loop-again c = more _ _ _ _ _ _ _ (c .before .before .before .before .loop .inv) (c .before .before .before .loop-test .taken) (c .before .step-coded .ensures) (c .play .ensures)
-
-end-requires : tie.Need-end-requires Inv-loop μ-loop
-end-requires c κs = tt
-
-returns : tie.Need-returns Inv-loop μ-loop
-returns c = c .end .ensures ∙ ap ended (all _ _ _ _ _ (c .before .before .loop .inv) (c .before .loop-test .left))
+returns-2 : tie.Need-returns-2
+returns-2 c = before-it _ _ _ _ (c .before .before .before .until-set .ensures) _ (c .before .if1 .left) (c .end .ensures)
 
 pub came-after-spec : {M : Type 1} → statement M
 came-after-spec =
     tie.close
     (tie.spec
-    Inv-loop
-    μ-loop
-    loop-holds
-    mul-step-coded
-    shared-slice-read-step-coded
-    step-coded-requires
-    play-requires
-    add-i
-    loop-less
-    loop-again
+    until-set-requires
+    mul-end-pending
+    sub-end-pending
+    part-end-pending-start
+    part-end-pending-end
+    end-pending-requires
+    returns
     end-requires
-    returns)
+    returns-2)

@@ -14,17 +14,20 @@ clocks-due-requires c κs = search needs
 wrapping-add-u32-requires : tie.Need-wrapping-add-u32-requires
 wrapping-add-u32-requires c κs = search needs
 
-returns : tie.Need-returns
-returns c = comes (c .before .before .before .args .irq) _ _ _ _ (c .before .before .clocks-due .ensures) (c .before .if1 .taken) (c .wrapping-add-u32 .ensures)
-
-clock-times-requires : tie.Need-clock-times-requires
-clock-times-requires c κs = (pace, undisturbed _ _ (search needs) (ap (dueWithin (c .before .before .args .n)) (sym (c .before .clocks-due .ensures)) ∙ c .if1 .left))
-
 wrapping-add-u32-requires-2 : tie.Need-wrapping-add-u32-requires-2
 wrapping-add-u32-requires-2 c κs = search needs
 
+returns : tie.Need-returns
+returns c = comes (c .before .before .before .before .args .irq) _ _ _ _ (c .before .before .before .clocks-due .ensures) (c .before .before .wrapping-add-u32 .ensures) _ (c .before .if1 .taken) (c .wrapping-add-u322 .ensures)
+
+clock-times-requires : tie.Need-clock-times-requires
+clock-times-requires c κs = (pace, undisturbed _ _ (search needs) (ap (dueWithin (c .before .before .before .args .n)) (sym (c .before .before .clocks-due .ensures)) ∙ c .if1 .left))
+
+waiting-requires : tie.Need-waiting-requires
+waiting-requires c κs = search needs
+
 returns-2 : tie.Need-returns-2
-returns-2 c = goes-by (c .before .before .before .before .args .irq) _ _ _ _ (c .before .before .before .clocks-due .ensures) _ (c .before .before .if1 .left) (c .before .clock-times .ensures) (c .wrapping-add-u322 .ensures)
+returns-2 c = c .waiting .ensures ∙ goes-by (c .before .before .before .before .before .args .irq) _ _ _ _ (c .before .before .before .before .clocks-due .ensures) (c .before .before .before .wrapping-add-u32 .ensures) _ (c .before .before .if1 .left) (c .before .clock-times .ensures)
 
 pub wait-spec : {M : Type 1} → statement M
 wait-spec =
@@ -32,7 +35,8 @@ wait-spec =
     (tie.spec
     clocks-due-requires
     wrapping-add-u32-requires
+    wrapping-add-u32-requires-2
     returns
     clock-times-requires
-    wrapping-add-u32-requires-2
+    waiting-requires
     returns-2)

@@ -15,13 +15,35 @@ line-of-requires c κs = search needs
 on-line-requires : tie.Need-on-line-requires
 on-line-requires c κs = search needs
 
+enum-known-came-2 : tie.Need-enum-known-came-2
+enum-known-came-2 c = search needs
+
+line-of-requires-2 : tie.Need-line-of-requires-2
+line-of-requires-2 c κs = search needs
+
+lost-on-requires : tie.Need-lost-on-requires
+lost-on-requires c κs = search needs
+
 returns : tie.Need-returns
 returns c = simp (c .enum-told .given .1)
 
 returns-2 : tie.Need-returns-2
 returns-2 c = simp (c .on-line .ensures, c .before .line-of .ensures, c .before .before .before .came .given .1)
 
+returns-3 : tie.Need-returns-3
+returns-3 c = simp (c .lost-on .ensures, c .before .line-of2 .ensures, c .before .before .before .came2 .given .1)
+
 pub verdict-of-spec : {M : Type 1} → statement M
 verdict-of-spec =
     tie.close
-    (tie.spec enum-told enum-known-came line-of-requires on-line-requires returns returns-2)
+    (tie.spec
+    enum-told
+    enum-known-came
+    line-of-requires
+    on-line-requires
+    enum-known-came-2
+    line-of-requires-2
+    lost-on-requires
+    returns
+    returns-2
+    returns-3)

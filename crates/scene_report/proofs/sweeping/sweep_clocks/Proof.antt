@@ -25,22 +25,22 @@ run-requires : tie.Need-run-requires Inv-loop μ-loop
 run-requires c κs = c .loop-test .taken
 
 add-requires : tie.Need-add-requires Inv-loop μ-loop
-add-requires c κs = c .before .run .ensures .onward
+add-requires c κs = c .before .before .run .ensures .onward
 
 mark-requires : tie.Need-mark-requires Inv-loop μ-loop
-mark-requires c κs = (c .before .before .before .run .ensures .onward, c .before .before .before .run .ensures .within)
+mark-requires c κs = (c .before .before .before .before .run .ensures .onward, c .before .before .before .before .run .ensures .within)
 
 sub-put-run : tie.Need-sub-put-run Inv-loop μ-loop
-sub-put-run c = omega (arith, c .before .before .before .before .before .before .run .ensures .onward)
+sub-put-run c = omega (arith, c .before .before .before .before .before .before .before .run .ensures .onward)
 
 put-run-requires : tie.Need-put-run-requires Inv-loop μ-loop
 put-run-requires c κs = search needs
 
 loop-less : tie.Need-loop-less Inv-loop μ-loop
-loop-less c = omega (arith, c .before .before .before .before .before .before .before .before .run .ensures .onward, c .before .before .before .before .before .before .before .before .before .loop-test .taken)
+loop-less c = omega (arith, c .before .before .before .before .before .before .before .before .before .run .ensures .onward, c .before .before .before .before .before .before .before .before .before .before .loop-test .taken)
 
 loop-again : tie.Need-loop-again Inv-loop μ-loop
-loop-again c = more _ _ _ _ _ _ _ _ (c .before .before .before .before .before .before .before .before .before .before .loop .inv) _ (c .before .before .before .before .before .before .before .before .run .ensures) _ _ (c .before .before .before .before .before .before .add .ensures) (c .before .before .before .before .mark .ensures)
+loop-again c = more _ _ _ _ _ _ _ _ (c .before .before .before .before .before .before .before .before .before .before .before .loop .inv) _ (c .before .before .before .before .before .before .before .before .before .run .ensures) _ _ (c .before .before .before .before .before .before .add .ensures) (c .before .before .before .before .mark .ensures)
 
 returns : tie.Need-returns Inv-loop μ-loop
 returns c = all _ _ _ _ _ _ _ _ (c .before .loop .inv) (c .loop-test .left)

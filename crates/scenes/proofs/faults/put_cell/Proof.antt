@@ -17,8 +17,8 @@ loop-holds c = search needs
 shared-slice-read-byte : tie.Need-shared-slice-read-byte Inv-loop μ-loop
 shared-slice-read-byte c = search needs
 
-put-requires : tie.Need-put-requires Inv-loop μ-loop
-put-requires c κs = search needs
+put-byte-requires : tie.Need-put-byte-requires Inv-loop μ-loop
+put-byte-requires c κs = search needs
 
 add-i : tie.Need-add-i Inv-loop μ-loop
 add-i c = search needs
@@ -40,7 +40,7 @@ put-cell-spec =
     μ-loop
     loop-holds
     shared-slice-read-byte
-    put-requires
+    put-byte-requires
     add-i
     loop-less
     loop-again

@@ -4,13 +4,13 @@ use Rattle.scenes.proofs.header.read_header_row.Statement.{statement}
 use Rattle.scenes.proofs.header.read_header_row.Tie as tie
 
 abbrev Inv-loop : tie.InvT-loop
-Inv-loop text out₀ len start header₀ left₀ out header left = Unit {0}
+Inv-loop text out₀ len header₀ left₀ out header left = Unit {0}
 
 abbrev μ-loop : tie.MeasureT-loop
-μ-loop text out₀ len start header₀ left₀ out header left = left
+μ-loop text out₀ len header₀ left₀ out header left = left
 
-header-start-requires : tie.Need-header-start-requires Inv-loop μ-loop
-header-start-requires c κs = search needs
+first-row-requires : tie.Need-first-row-requires Inv-loop μ-loop
+first-row-requires c κs = search needs
 
 wrapping-add-usize-requires : tie.Need-wrapping-add-usize-requires Inv-loop μ-loop
 wrapping-add-usize-requires c κs = search needs
@@ -54,7 +54,7 @@ read-header-row-spec =
     (tie.spec
     Inv-loop
     μ-loop
-    header-start-requires
+    first-row-requires
     wrapping-add-usize-requires
     loop-holds
     sub-left

@@ -5,10 +5,10 @@ use Rattle.scenes.proofs.reading.put_singles.Statement.{statement}
 use Rattle.scenes.proofs.reading.put_singles.Tie as tie
 
 abbrev Inv-loop : tie.InvT-loop
-Inv-loop out₀ len text starts source row columns n₀ i₀ out n i = i ≤ 5
+Inv-loop out₀ len text starts source row columns n₀ i₀ out n i = i ≤ 7
 
 abbrev μ-loop : tie.MeasureT-loop
-μ-loop out₀ len text starts source row columns n₀ i₀ out n i = 5 - i
+μ-loop out₀ len text starts source row columns n₀ i₀ out n i = 7 - i
 
 loop-holds : tie.Need-loop-holds Inv-loop μ-loop
 loop-holds c = search needs

@@ -21,6 +21,15 @@ sub-left c = search needs
 cell-at-requires : tie.Need-cell-at-requires Inv-loop μ-loop
 cell-at-requires c κs = search needs
 
+sub-take : tie.Need-sub-take Inv-loop μ-loop
+sub-take c = search needs
+
+part-take-start : tie.Need-part-take-start Inv-loop μ-loop
+part-take-start c = search needs
+
+part-take-end : tie.Need-part-take-end Inv-loop μ-loop
+part-take-end c = search needs
+
 take-requires : tie.Need-take-requires Inv-loop μ-loop
 take-requires c κs = search needs
 
@@ -46,6 +55,9 @@ read-row-spec =
     loop-holds
     sub-left
     cell-at-requires
+    sub-take
+    part-take-start
+    part-take-end
     take-requires
     loop-less
     loop-again
