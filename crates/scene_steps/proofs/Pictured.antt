@@ -17,12 +17,12 @@ use Rattle.scene_cells.proofs.Spans.{head, missing, tail, there}
 use Rattle.scene_steps.specs.declared.picture.At.{At}
 use Rattle.scene_steps.specs.declared.picture.At.the-variants.{Unsaid, Wrong}
 use Rattle.scene_steps.specs.Laws.{InPicture, InPictureLaw}
-use Rattle.scene_steps.specs.Picture.{atIn, atOf, dotFrom, lineAndDot, lineFrom}
+use Rattle.scene_steps.specs.Picture.{atIn, atOf, dotFrom, lineAndDot, atLine}
 use Rattle.scene_steps.proofs.Ranges.{Below, below}
 
 -- a word
 module _ (w : List ℕ) (at : ℕ) (f : PlaceOf (fromMark 58) w 0 at) where
-  pub line-only : at ≡ length w → lineFrom (numberOf 10 261 w) ≡ atOf w
+  pub line-only : at ≡ length w → atLine (numberOf 10 261 w) ≡ atOf w
   unfolding atOf
   line-only e = rw (missing 58 w at f e)
 
@@ -58,7 +58,7 @@ module _ (cell : List ℕ) (from to : ℕ) (f : Found cell cell from to) where
     one e = ap atOf (f .word) ∙ sym (by (no-word cell (drop to cell) from' to' g e))
 
 -- ---- what is said lies in the picture
-line-in : (n : Number) → Below 261 n → InPicture (lineFrom n)
+line-in : (n : Number) → Below 261 n → InPicture (atLine n)
 line-in (Value n) h = h
 line-in NoNumber h = tt
 line-in TooLarge h = tt

@@ -13,10 +13,10 @@ use Rattle.scene_steps.specs.declared.picture.At.{At}
 use Rattle.scene_steps.specs.declared.picture.At.the-variants.{Unsaid, Line, Dot, Wrong}
 
 -- a line alone (docs/SCENES.md)
-abbrev pub lineFrom : Number → At
-lineFrom (Value line) = Line line
-lineFrom NoNumber = Wrong 1
-lineFrom TooLarge = Wrong 1
+abbrev pub atLine : Number → At
+atLine (Value line) = Line line
+atLine NoNumber = Wrong 1
+atLine TooLarge = Wrong 1
 
 -- the number behind `:`, with the line before it (docs/SCENES.md)
 abbrev pub dotFrom : (line : ℕ) → Number → At
@@ -33,7 +33,7 @@ lineAndDot TooLarge dot = Wrong 1
 -- what a word says: a line of 0 to 261, or a line and a dot of 0 to 340 behind `:`, decimal; or what is wrong with it (docs/SCENES.md)
 unfoldable pub atOf : List ℕ → At
 atOf w =
-    cond (eqb (length (fromMark 58 w)) 0) (lineFrom (numberOf 10 261 w))
+    cond (eqb (length (fromMark 58 w)) 0) (atLine (numberOf 10 261 w))
     (lineAndDot (numberOf 10 261 (beforeMark 58 w)) (numberOf 10 340 (behindMark 58 w)))
 
 -- what a cell says: nothing where it is blank, otherwise what its only word does; 3 where it has several (docs/SCENES.md)

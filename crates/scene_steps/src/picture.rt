@@ -4,7 +4,7 @@ use text_words::next_word;
 use text_words::number::Number;
 use text_words::number::in_base;
 ghost use mathlib.Core.Path.{_≡_};
-ghost use Rattle.scene_steps.specs.Picture.{atIn, atOf, dotFrom, lineAndDot, lineFrom};
+ghost use Rattle.scene_steps.specs.Picture.{atIn, atOf, dotFrom, lineAndDot, atLine};
 
 // The last line of a picture, and the last dot of a line.
 pub const LAST_LINE: u32 = 261;
@@ -28,7 +28,7 @@ pub enum At {
 }
 
 fn line_from(line: Number) -> At
-    ensures { λ r. ⌜ r ≡ lineFrom line ⌝ }
+    ensures { λ r. ⌜ r ≡ atLine line ⌝ }
 {
     match line {
         Number::Value(n) => At::Line(n),

@@ -1,7 +1,7 @@
 -- `at_of` meets its contract. Assumes nothing.
 use mathlib.Core.Path.{ap, ap₂, _∙_}
 use Rattle.scene_steps.proofs.Pictured.{line-only, with-dot}
-use Rattle.scene_steps.specs.Picture.{lineAndDot, lineFrom}
+use Rattle.scene_steps.specs.Picture.{lineAndDot, atLine}
 use borrow.Author.Needs.{needs}
 use Rattle.scene_steps.proofs.picture.at_of.Statement.{statement}
 use Rattle.scene_steps.proofs.picture.at_of.Tie as tie
@@ -16,7 +16,7 @@ line-from-requires : tie.Need-line-from-requires
 line-from-requires c κs = search needs
 
 returns : tie.Need-returns
-returns c = c .line-from .ensures ∙ ap lineFrom (c .before .in-base .ensures) ∙ line-only _ _ (c .before .before .before .place-of .ensures) (c .before .before .if1 .taken)
+returns c = c .line-from .ensures ∙ ap atLine (c .before .in-base .ensures) ∙ line-only _ _ (c .before .before .before .place-of .ensures) (c .before .before .if1 .taken)
 
 sub-in-base : tie.Need-sub-in-base
 sub-in-base c = search needs

@@ -1,6 +1,6 @@
 -- `line_from` meets its contract. Assumes nothing.
 use mathlib.Core.Path.{sym, ap}
-use Rattle.scene_steps.specs.Picture.{lineFrom}
+use Rattle.scene_steps.specs.Picture.{atLine}
 use borrow.Author.Needs.{needs}
 use Rattle.scene_steps.proofs.picture.line_from.Statement.{statement}
 use Rattle.scene_steps.proofs.picture.line_from.Tie as tie
@@ -15,7 +15,7 @@ enum-told-2 : tie.Need-enum-told-2
 enum-told-2 c = search needs
 
 returns : tie.Need-returns
-returns c = ap lineFrom (sym (c .before .line .given .1))
+returns c = ap atLine (sym (c .before .line .given .1))
 
 returns-2 : tie.Need-returns-2
 returns-2 c = search needs
