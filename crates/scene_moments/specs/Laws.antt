@@ -23,7 +23,7 @@ pub record Margins (s : Screen) (from to : ℕ) : Type 0 where
 abbrev pub MarginLaw : Type 0
 MarginLaw = (s : Screen) (from to : ℕ) → from ≤ to → lineOf s from ≡ lineOf s to → Margins s from to
 
--- two lines to go: latch FE, armed with `F001=03`, as it stands at clock 200
+-- latch 254, control 3: two lines, as it stands 200 clocks later
 abbrev pub soon : VrcIrq
 soon =
     record {
@@ -38,17 +38,17 @@ soon =
 
 -- handlers on clock 200, by their steps' numbers, and what they mean for a window on line 2
 pub record LostExamples : Type 0 where
-  -- `+60 F002=00`
+  -- 60 clocks, acknowledge
   pub acknowledged : came false (0x100003C ∷ 0xF00200 ∷ []) (moment soon 200) ≡ Lost 228 260
-  -- `+60 F001=02`
+  -- 60 clocks, control
   pub controlled : came false (0x100003C ∷ 0xF00102 ∷ []) (moment soon 200) ≡ Lost 228 260
-  -- `+60 +7 reset`
+  -- 60 clocks, 7 more, a reset
   pub reset : came false (0x100003C ∷ 0x1000007 ∷ 0x2000000 ∷ []) (moment soon 200) ≡ Lost 228 267
-  -- `+60 F000=00`: the latch clears nothing
+  -- 60 clocks, the latch, which clears nothing
   pub latched : came false (0x100003C ∷ 0xF00000 ∷ []) (moment soon 200) ≡ On 228
-  -- `+27 F002=00`: cleared before it is set
+  -- 27 clocks, acknowledge: one clock before it is set
   pub before : came false (0x100001B ∷ 0xF00200 ∷ []) (moment soon 200) ≡ On 228
-  -- `+60 F002=00` on revision B, where $F002 is control
+  -- the first on revision B, where the same address is control
   pub revisionB : came true (0x100003C ∷ 0xF00200 ∷ []) (moment soon 200) ≡ Lost 228 260
   -- with interrupts masked the window is lost, with interrupts open it is right
   pub masked : verdictOf false (Lost 228 260) (record { line = 0; dots = 0 }) 2 ≡ record { line = 2; off = 0; mark = 3 }

@@ -9,10 +9,11 @@ use Rattle.scene_sweep.specs.declared.spans.Span.{Span}
 abbrev pub spanOf : ℕ → Span
 spanOf n = record { least = n; most = n }
 
--- the lesser and the greater of two numbers
+-- the lesser of two numbers
 abbrev pub lesser : (a b : ℕ) → ℕ
 lesser a b = cond (ltb b a) b a
 
+-- the greater of two numbers
 abbrev pub greater : (a b : ℕ) → ℕ
 greater a b = cond (ltb a b) b a
 
