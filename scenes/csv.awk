@@ -1,4 +1,4 @@
-# The report as a table: a line for each row that is not blank. What the text report says of faults, the counts and the result
+# The report as a table: a line for each row, so that it can stand beside the sheet. What the text report says of faults, the counts and the result
 # go to standard error.
 
 BEGIN { print (several ? "sheet," : "") "row,scene,verdict,line,first wrong clock,worst,moments,wrong" }
@@ -6,7 +6,7 @@ BEGIN { print (several ? "sheet," : "") "row,scene,verdict,line,first wrong cloc
 function say(line) { print line > "/dev/stderr" }
 function on_sheet() { if (several) say(shown(path[sheet])) }
 function on_note(line) { say(line) }
-function on_blank(line) { }
+function on_blank(line) { print (several ? cell(path[sheet]) "," : "") row_of(line) ",,blank,,,,," }
 function on_fault(line) { say(line) }
 function on_scene(line) { heading = line }
 function on_run(line) { }

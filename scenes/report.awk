@@ -22,6 +22,7 @@ BEGIN {
     sentence[0] = "every scene was read and is right"
     sentence[1] = "not every scene is right"
     sentence[2] = "a row or a sheet could not be read"
+    misnamed = "every scene is right, but a column may be misnamed"
 }
 
 $0 == "" { next }
@@ -32,8 +33,8 @@ $0 == "" { next }
 
 END {
     if (playing || sheet == 0) status = 2
-    on_end(sentence[status])
-    exit status
+    on_end(status == 0 && hints ? misnamed : sentence[status])
+    exit status == 0 && hints ? 1 : status
 }
 
 function start_sheet() {
@@ -94,7 +95,7 @@ function lone_line(line) {
 
 # The closing list has the columns that may mean another once more.
 function note(line) {
-    if (line ~ /' is not used; it may mean '[a-z]+'$/) hint[++hinted] = line
+    if (line ~ /' is not used; it may mean '[a-z]+'$/) { hint[++hinted] = line; hints++ }
     on_note(line)
 }
 
@@ -184,18 +185,18 @@ function close_list(   i, said) {
 }
 
 # The rows of a kind, as in `3, 5..9, 12`, in lines of up to 100 columns.
-function list(title, kind,   i, j, n, line, item) {
+function list(title, kind,   i, j, n, line, range) {
     n = count[kind]
     if (n == 0) return
     line = title
     for (i = 1; i <= n; i = j + 1) {
         j = range_end(kind, i)
-        item = " " rows[kind, i] (j > i ? ".." rows[kind, j] : "") (j < n ? "," : "")
-        if (length(line item) > 100) {
+        range = " " rows[kind, i] (j > i ? ".." rows[kind, j] : "") (j < n ? "," : "")
+        if (length(line range) > 100) {
             say(line)
             line = " "
         }
-        line = line item
+        line = line range
     }
     say(line)
 }

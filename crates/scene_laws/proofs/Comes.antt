@@ -28,11 +28,11 @@ use Rattle.scene_steps.specs.declared.step.Step.the-variants.{Write, Clocks, Re
 use Rattle.scene_steps.specs.Steps.{stepCoded}
 use Rattle.scene_board.specs.Played.{stepCalls, callsOf}
 use Rattle.scene_laws.specs.Counter.{counterBy}
-use Rattle.scene_laws.specs.Rises.{ByteEvent, Loss, LossFound, OfByte, Waits, callsAround, callsUpTo, cameAt, clearedAt, lossIn, risesAt}
+use Rattle.scene_laws.specs.Rises.{ByteEvent, HeldFound, Loss, LossFound, OfByte, Waits, callsAround, callsUpTo, cameAt, clearedAt, lossIn, risesAt}
 use Rattle.scene_laws.specs.Laws.{CameLaw, Comes, Loses, RiseLaw, SingleLaw}
 use Rattle.scene_laws.proofs.Boarded.{counter-law}
 use Rattle.scene_laws.proofs.Runs.{Fine, Ready, fine-clocked, fine-taken, fine-zero, taken-clear, ready-after, rises, quiet, quiet-due}
-use Rattle.scene_laws.proofs.Losses.{falls, loses, loss-told, quiet-loss}
+use Rattle.scene_laws.proofs.Losses.{falls, held-told, loses, loss-told, quiet-loss}
 use Rattle.scene_laws.proofs.Walks.{told, found-same, count-joined, count-run}
 
 -- ---- only a clock sets pending
@@ -152,6 +152,13 @@ lost-on-board x k codes h f w room =
     ∙ ap (loses b (irqClockedTimes lineStep lineLength k q) (callsOf codes)) (zero-add k)))
     (loss-told b codes (irqClockedTimes lineStep lineLength k q) k (ready-after k q ready still) (omega arith))
 
+held-on-board : (x : State) (k : ℕ) (codes : List ℕ) → k + clockCount (callsOf codes) + 100_000 < 2 ^ 32
+    → HeldFound (cameAt (x .board .banking .«revision_b») (x .board .irq) k codes) (clockCount (callsUpTo k codes))
+held-on-board x k codes room =
+    let all : k + clockCount (callsOf codes) ≡ clockCount (callsUpTo k codes) = omega (arith, count-joined (replicate k Clock) (callsOf codes), count-run k) in
+    subst (HeldFound (cameAt (x .board .banking .«revision_b») (x .board .irq) k codes)) all
+    (held-told (x .board .banking .«revision_b») codes (irqClockedTimes lineStep lineLength k (x .board .irq)) k (omega arith))
+
 -- the counter of a new board
 pub first-fine : (c : Creation) → create c .refusal ≡ 0 → Fine (start c .board .irq)
 first-fine c h =
@@ -169,4 +176,5 @@ came-law c h ws o k w codes room m =
           lost-on-board (after (start c) ws) k codes
           (accepted-behind ws (start c) (callsUpTo k codes) (demand3 c h (ws ++ callsUpTo k codes) .accepted))
           fine w room;
+      held = held-on-board (after (start c) ws) k codes room;
     }

@@ -6,5 +6,6 @@ pub mod Losses
 pub mod Runs
 pub mod Scene
 pub mod Slots
+pub mod Steps
 pub mod Sweeping
 pub mod Walks

@@ -16,6 +16,7 @@ use Rattle.registers.specs.declared.Register.the-variants.{Nothing, OfBank, OfA
 use Rattle.registers.specs.declared.IrqRegister.the-variants.{Reload, Control, Acknowledge}
 use Rattle.registers.specs.Decode.{decode}
 use Rattle.irq.specs.declared.VrcIrq.{VrcIrq}
+use Rattle.irq.specs.Interrupt.{irqZero}
 use Rattle.irq.specs.Timing.{lineStep, lineLength, clockAnswer}
 use Rattle.irq.specs.Writes.{irqWrittenTo}
 use Rattle.irq_clocks.specs.Clocks.{irqClockedTimes, irqSets, LeastClocks}
@@ -29,11 +30,11 @@ use Rattle.scene_steps.specs.declared.step.Step.the-variants.{Write, Clocks, Re
 use Rattle.scene_steps.specs.Steps.{stepCoded}
 use Rattle.scene_board.specs.Played.{callsOf, stepCalls}
 use Rattle.scene_moments.specs.declared.moment.Came.{Came}
-use Rattle.scene_moments.specs.declared.moment.Came.the-variants.{Never, On, Lost}
+use Rattle.scene_moments.specs.declared.moment.Came.the-variants.{Never, On, Held, Lost}
 use Rattle.scene_moments.specs.declared.moment.Moment.{Moment}
 use Rattle.scene_moments.specs.Moments.{added, came, clears, clocksDue, comingIn, dueWithin, ended, lostAt, menuPlayed, moment, pendingAt, stepPending, stepTaken, waited}
 use Rattle.scene_laws.specs.Counter.{counterAfter}
-use Rattle.scene_laws.specs.Rises.{Loss, LossFound}
+use Rattle.scene_laws.specs.Rises.{HeldFound, Loss, LossFound}
 use Rattle.scene_laws.proofs.Runs.{Quiet, Ready, clocked-clear, first-due, quiet-due, ready-after, ready-clocked, ready-taken, ready-zero, shift, within}
 use Rattle.scene_laws.proofs.Walks.{ByteStep, byte-step, count-joined, count-run, not-over, stays-lost}
 
@@ -246,3 +247,66 @@ module _ (b : Bool) where
   loss-told [] q clock r room = none-left clock (clocksDue q)
   loss-told (code ∷ codes) q clock r room =
       take codes q clock r (λ x t f l. loss-told codes x t f l) (stepCoded code) (byte-step (code / 0x1000000) (code % 0x1000000)) room
+
+  -- ---- one that is held ends with the handler
+  abbrev Ends : Moment → (codes : List ℕ) (clock : ℕ) → Type 0
+  Ends m codes clock = HeldFound (ended (menuPlayed b codes m)) (clock + clockCount (callsOf codes))
+
+  lost-ends : (codes : List ℕ) (m : Moment) (n : ℕ) → m .lost ≡ true → HeldFound (ended (menuPlayed b codes m)) n
+  lost-ends codes m n l =
+      subst (λ (x : Moment). HeldFound (ended x) n) (sym (stays-lost b codes m l))
+      (subst (λ (c : Bool). HeldFound (cond c (Lost (m .set) (m .clock)) (cond (m .came) (Held (m .set) (m .clock)) (comingIn (m .clock) (clocksDue (m .irq))))) n) (sym l) tt)
+
+  -- a call that is no clock
+  light : (a : Came) (clock c : ℕ) → HeldFound a (clock + c) → HeldFound a (clock + (0 + c))
+  light a clock c h = let same : clock + c ≡ clock + (0 + c) = omega arith in subst (HeldFound a) same h
+
+  -- as many clocks go by in a step and behind it
+  ends-on : (m : Moment) (s : Step) (codes : List ℕ) (clock n : ℕ) → clockCount (stepCalls s) ≡ n → Ends m codes (clock + n)
+      → HeldFound (ended (menuPlayed b codes m)) (clock + clockCount (stepCalls s ++ callsOf codes))
+  ends-on m s codes clock n w h =
+      let same : clock + n + clockCount (callsOf codes) ≡ clock + clockCount (stepCalls s ++ callsOf codes) =
+      omega (arith, count-joined (stepCalls s) (callsOf codes), w) in
+      subst (HeldFound (ended (menuPlayed b codes m))) same h
+
+  module _ (s : ℕ) (p : VrcIrq) where
+    still-by : (codes : List ℕ) (clock : ℕ) → ((t : ℕ) → t + clockCount (callsOf codes) < 2 ^ 32 → Ends (pendingAt p t s) codes t)
+        → (t : Step) → clock + clockCount (stepCalls t ++ callsOf codes) < 2 ^ 32
+        → HeldFound (ended (menuPlayed b codes (stepPending b t (pendingAt p clock s)))) (clock + clockCount (stepCalls t ++ callsOf codes))
+    still-by codes clock again (Write a v) room =
+        tested (clears (decode b a))
+        (λ e. rw e (lost-ends codes (lostAt (pendingAt p clock s)) _ refl))
+        (λ e. rw e (light (ended (menuPlayed b codes (pendingAt p clock s))) clock (clockCount (callsOf codes)) (again clock (omega arith))))
+    still-by codes clock again (Clocks n) room =
+        let fits : clock + n + clockCount (callsOf codes) < 2 ^ 32 = omega (arith, count-joined (replicate n Clock) (callsOf codes), count-run n) in
+        rw (not-over clock n (omega arith)) (ends-on (pendingAt p (clock + n) s) (Clocks n) codes clock n (count-run n) (again (clock + n) fits))
+    still-by codes clock again Reset room = lost-ends codes (lostAt (pendingAt p clock s)) _ refl
+    still-by codes clock again (Wrong n) room = again clock room
+
+    still-ends : (codes : List ℕ) (clock : ℕ) → clock + clockCount (callsOf codes) < 2 ^ 32 → Ends (pendingAt p clock s) codes clock
+    still-ends [] clock room = omega arith
+    still-ends (code ∷ codes) clock room = still-by codes clock (λ t r. still-ends codes t r) (stepCoded code) room
+
+  none-held : (clock d n : ℕ) → HeldFound (comingIn clock d) n
+  none-held clock d n = either (λ (a : Came). HeldFound a n) (eqb d 0) tt tt
+
+  ends-by : (codes : List ℕ) (q : VrcIrq) (clock : ℕ) → ((x : VrcIrq) (t : ℕ) → t + clockCount (callsOf codes) < 2 ^ 32 → Ends (moment x t) codes t)
+      → (s : Step) → clock + clockCount (stepCalls s ++ callsOf codes) < 2 ^ 32
+      → HeldFound (ended (menuPlayed b codes (stepTaken b s (moment q clock)))) (clock + clockCount (stepCalls s ++ callsOf codes))
+  ends-by codes q clock again (Write a v) room =
+      let p = irqWrittenTo (decode b a) v q in
+      light (came b codes (moment p clock)) clock (clockCount (callsOf codes)) (again p clock (omega arith))
+  ends-by codes q clock again (Clocks n) room =
+      let fits : clock + n + clockCount (callsOf codes) < 2 ^ 32 = omega (arith, count-joined (replicate n Clock) (callsOf codes), count-run n) in
+      tested (dueWithin n (clocksDue q))
+      (λ h. rw (h, not-over clock n (omega arith))
+      (ends-on (pendingAt q (clock + n) (added clock (clocksDue q))) (Clocks n) codes clock n (count-run n)
+      (still-ends (added clock (clocksDue q)) q codes (clock + n) fits)))
+      (λ h. rw (h, not-over clock n (omega arith))
+      (ends-on (moment (irqClockedTimes lineStep lineLength n q) (clock + n)) (Clocks n) codes clock n (count-run n) (again (irqClockedTimes lineStep lineLength n q) (clock + n) fits)))
+  ends-by codes q clock again Reset room = light (came b codes (moment irqZero clock)) clock (clockCount (callsOf codes)) (again irqZero clock (omega arith))
+  ends-by codes q clock again (Wrong n) room = again q clock room
+
+  pub held-told : (codes : List ℕ) (q : VrcIrq) (clock : ℕ) → clock + clockCount (callsOf codes) < 2 ^ 32 → Ends (moment q clock) codes clock
+  held-told [] q clock room = none-held clock (clocksDue q) (clock + 0)
+  held-told (code ∷ codes) q clock room = ends-by codes q clock (λ x t r. held-told codes x t r) (stepCoded code) room

@@ -92,7 +92,7 @@ scene-law c h ws ms =
       sweep =
           λ clear few screen window unmasked from r run j low high m.
           subst
-          (λ (b : Bool). HasVerdict y j (codesOf ms) m (record { screen = screen; «revision_b» = b; window = window; unmasked = unmasked }) r)
+          (λ (b : Bool). HasVerdict y j (codesOf ms) m (record { screen = screen; «revision_b» = b; window = window; unmasked = unmasked }) from r)
           (revised c h ws ms)
           (sweep-law c h (callsOf (codesOf ws)) (bytes (codesOf ws)) y refl clear ms few screen window unmasked from r
           (subst

@@ -1,5 +1,5 @@
 -- Each clock of a run has the run's verdict on the board. Assumes nothing.
-use mathlib.Core.Path.{_≡_, sym, ap, subst}
+use mathlib.Core.Path.{_≡_, sym, ap, subst, _∙_}
 use mathlib.Core.Bool.{false}
 use mathlib.Core.List.{List, [], _∷_}
 use Prim.Native.Nat.{ℕ, _*_, _≤_, _<_}
@@ -22,7 +22,7 @@ use Rattle.irq.specs.Timing.{lineStep, lineLength}
 use Rattle.irq_clocks.specs.Clocks.{irqClockedTimes}
 use Rattle.scene_moments.specs.declared.verdict.Seen.{Seen}
 use Rattle.scene_sweep.specs.Runs.{seenFrom, seenIn}
-use Rattle.scene_sweep.proofs.Running.{in-sweep, in-whole}
+use Rattle.scene_sweep.proofs.Running.{first-in-sweep, in-sweep, in-whole}
 use Rattle.scene_laws.specs.Rises.{Waits, cameAt}
 use Rattle.scene_laws.specs.Laws.{CameOn}
 use Rattle.scene_laws.specs.Sweeps.{SweepLaw, codesOf, sweepFrom}
@@ -74,7 +74,12 @@ sweep-law c h ws o x e clear words few screen window unmasked from r run j low h
       came = cameAt (x .board .banking .«revision_b») q j (codesOf words);
       found = law .comes;
       lost = law .loses;
+      held = law .held;
       verdict = in-sweep s (codesOf words) q from (clocksDue q) r run j low high;
+      begin = λ z.
+          let first : seenIn s (codesOf words) q j ≡ r .first =
+          ap (seenIn s (codesOf words) q) z ∙ first-in-sweep s (codesOf words) q from (clocksDue q) r run in
+          (ap (λ (y : Seen). y .set) first, ap (λ (y : Seen). y .cleared) first);
       set = (omega (arith, set, run .set .low j low high), omega (arith, set, run .set .high j low high));
       cleared = (omega (arith, cleared, run .cleared .low j low high), omega (arith, cleared, run .cleared .high j low high));
     }

@@ -23,7 +23,7 @@ use Rattle.scene_steps.specs.declared.step.Step.the-variants.{Write, Clocks, Re
 use Rattle.scene_steps.specs.Steps.{stepCoded, stepFrom}
 use Rattle.scene_moments.specs.declared.moment.Moment.{Moment}
 use Rattle.scene_moments.specs.declared.moment.Came.{Came}
-use Rattle.scene_moments.specs.declared.moment.Came.the-variants.{Never, On, Lost}
+use Rattle.scene_moments.specs.declared.moment.Came.the-variants.{Never, On, Held, Lost}
 use Rattle.scene_board.specs.Played.{callsOf, stepCalls}
 use Rattle.scene_laws.specs.Counter.{counterAfter}
 use Rattle.scene_moments.specs.Moments.{added, came, clears, comingIn, clocksDue, dueWithin, ended, lostAt, menuPlayed, moment, pendingAt, stepPending, stepTaken, waited}

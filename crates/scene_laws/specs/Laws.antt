@@ -18,7 +18,7 @@ use Rattle.scene_board.specs.Played.{callsOf}
 use Rattle.scene_laws.specs.Counter.{counterAfter}
 use Rattle.scene_moments.specs.Lines.{lineOf, screenFrom}
 use Rattle.scene_moments.specs.Moments.{clocksDue}
-use Rattle.scene_laws.specs.Rises.{LossFound, OfByte, Waits, RiseFound, callsAround, callsUpTo, cameAt, lossIn, risesAt}
+use Rattle.scene_laws.specs.Rises.{HeldFound, LossFound, OfByte, Waits, RiseFound, callsAround, callsUpTo, cameAt, lossIn, risesAt}
 
 -- ---- the counter alone
 -- the clocks due of a counter
@@ -67,10 +67,12 @@ Comes x k codes m =
 abbrev pub Loses : (x : State) (k : ℕ) (codes : List ℕ) → Type 0
 Loses x k codes = LossFound (cameAt (x .board .banking .«revision_b») (x .board .irq) k codes) (lossIn x (callsUpTo k codes) 0)
 
--- both
+-- all three
 pub record CameOn (x : State) (k : ℕ) (codes : List ℕ) (m : ℕ) : Type 0 where
   pub comes : Comes x k codes m
   pub loses : Loses x k codes
+  -- one that is held is pending up to the handler's last call
+  pub held : HeldFound (cameAt (x .board .banking .«revision_b») (x .board .irq) k codes) (clockCount (callsUpTo k codes))
 
 -- of every accepted creation, every list of calls before, every handler and every number of clocks behind it; clocks are counted in 32
 -- bits, and the last bound leaves room for the longest wait of the counter

@@ -17,7 +17,7 @@ use Rattle.vrc6_ledger.specs.Ledger.{Event, cpuWrites, pictureWrites, clocks, r
 use Rattle.vrc6_ledger.specs.Demand3.{weight}
 use Rattle.scene_board.specs.Played.{callsOf}
 use Rattle.scene_moments.specs.declared.moment.Came.{Came}
-use Rattle.scene_moments.specs.declared.moment.Came.the-variants.{Never, On, Lost}
+use Rattle.scene_moments.specs.declared.moment.Came.the-variants.{Never, On, Held, Lost}
 use Rattle.scene_moments.specs.Moments.{came, clocksDue, dueWithin, moment}
 
 -- ---- the calls
@@ -80,10 +80,19 @@ cameAt b q k codes = came b codes (moment (irqClockedTimes lineStep lineLength k
 abbrev pub RiseFound : Came → (n : ℕ) → Option ℕ → Type 0
 RiseFound Never n r = r ≡ none
 RiseFound (On t) n r = (t ≤ n → r ≡ some t) × (n < t → r ≡ none)
+RiseFound (Held t e) n r = (t ≤ n → r ≡ some t) × (n < t → r ≡ none)
 RiseFound (Lost t c) n r = (t ≤ n → r ≡ some t) × (n < t → r ≡ none)
 
 -- what k clocks and the handler find where the interrupt comes so: it is lost, or no call of the handler clears it
 abbrev pub LossFound : Came → Option Loss → Type 0
 LossFound Never r = r ≡ none
 LossFound (On t) r = r ≡ none
+LossFound (Held t e) r = r ≡ none
 LossFound (Lost t c) r = r ≡ some (record { set = t; cleared = c })
+
+-- where the interrupt comes so, and k clocks and the handler are n clocks: one that is held is pending up to the handler's end
+abbrev pub HeldFound : Came → (n : ℕ) → Type 0
+HeldFound Never n = Unit {0}
+HeldFound (On t) n = Unit {0}
+HeldFound (Held t e) n = e ≡ n
+HeldFound (Lost t c) n = Unit {0}

@@ -43,7 +43,7 @@ pub record SceneOf (c : Creation) (writes menu : List (List ℕ)) (e : Ended) : 
   -- pending clear, and a run that the contract of `Sweep::run` allows: each clock of it has on the board what it says
   pub sweep : e .irq .«irq_pending» ≡ false → length menu ≤ 4_096 → (screen : Screen) (window : ℕ) (unmasked : Bool) (from : ℕ) (r : Run)
       → RunOf (sweepOf c screen window unmasked) (codesOf menu) (irqClockedTimes lineStep lineLength from (e .irq)) from (clocksDue (e .irq)) r
-      → (j : ℕ) → from ≤ j → j < r .to → (m : ℕ) → HasVerdict (sceneWritten c writes) j (codesOf menu) m (sweepOf c screen window unmasked) r
+      → (j : ℕ) → from ≤ j → j < r .to → (m : ℕ) → HasVerdict (sceneWritten c writes) j (codesOf menu) m (sweepOf c screen window unmasked) from r
 
 -- of every accepted creation and all words of writes and menu
 abbrev pub SceneLaw : Type 0

@@ -19,8 +19,8 @@ use Rattle.scene_sweep.specs.declared.runs.Sweep.{Sweep}
 use Rattle.scene_moments.specs.declared.lines.Screen.{Screen}
 use Rattle.scene_moments.specs.Moments.{clocksDue}
 use Rattle.scene_sweep.specs.Runs.{RunOf}
-use Rattle.scene_moments.specs.Verdicts.{clearedOf, setOf, verdictOf}
-use Rattle.scene_laws.specs.Rises.{LossFound, OfByte, RiseFound, callsAround, callsUpTo, lossIn, risesAt}
+use Rattle.scene_moments.specs.Verdicts.{clearedOf, countedOf, verdictOf}
+use Rattle.scene_laws.specs.Rises.{HeldFound, LossFound, OfByte, RiseFound, callsAround, callsUpTo, lossIn, risesAt}
 
 -- the steps of a cell's words, as their numbers
 abbrev pub codesOf : (words : List (List ℕ)) → List ℕ
@@ -31,16 +31,20 @@ abbrev pub sweepFrom : State → (screen : Screen) (window : ℕ) (unmasked : Bo
 sweepFrom x screen window unmasked =
     record { screen = screen; «revision_b» = x .board .banking .«revision_b»; window = window; unmasked = unmasked }
 
--- a board that is clocked j times, makes the menu's calls and is clocked m times has what run r of sweep s says of clock j
-pub record HasVerdict (x : State) (j : ℕ) (codes : List ℕ) (m : ℕ) (s : Sweep) (r : Run) : Type 0 where
+-- a board that is clocked j times, makes the menu's calls and is clocked m times has what run r of sweep s, which begins at a clock, says of
+-- clock j
+pub record HasVerdict (x : State) (j : ℕ) (codes : List ℕ) (m : ℕ) (s : Sweep) (from : ℕ) (r : Run) : Type 0 where
   pub came : Came
   -- the clock on which pending is first set, if these clocks get that far
   pub found : RiseFound came (clockCount (callsAround j codes m)) (risesAt x (callsAround j codes m) 0)
   -- and the clock on which the menu clears it, if it does
   pub lost : LossFound came (lossIn x (callsUpTo j codes) 0)
+  -- or the clock of the menu's last call, if it is pending then
+  pub held : HeldFound came (clockCount (callsUpTo j codes))
   pub verdict : verdictOf (s .unmasked) came (s .screen) (s .window) ≡ r .first .verdict
-  -- both clocks lie between those that the run says
-  pub set : (r .set .least ≤ setOf came) × (setOf came ≤ r .set .most)
+  -- at the run's first clock both are those that the run says of it, and at every clock they lie between those that it says
+  pub begin : j ≡ from → (countedOf (s .unmasked) came ≡ r .first .set) × (clearedOf came ≡ r .first .cleared)
+  pub set : (r .set .least ≤ countedOf (s .unmasked) came) × (countedOf (s .unmasked) came ≤ r .set .most)
   pub cleared : (r .cleared .least ≤ clearedOf came) × (clearedOf came ≤ r .cleared .most)
 
 -- of every accepted creation, every list of calls before that leaves pending clear, every menu of up to 4,096 words, every screen and line that
@@ -52,4 +56,4 @@ SweepLaw =
     → x .board .irq .«irq_pending» ≡ false → (words : List (List ℕ)) → length words ≤ 4_096 → (screen : Screen) (window : ℕ) (unmasked : Bool)
     → (from : ℕ) (r : Run)
     → RunOf (sweepFrom x screen window unmasked) (codesOf words) (irqClockedTimes lineStep lineLength from (x .board .irq)) from (clocksDue (x .board .irq)) r
-    → (j : ℕ) → from ≤ j → j < r .to → (m : ℕ) → HasVerdict x j (codesOf words) m (sweepFrom x screen window unmasked) r
+    → (j : ℕ) → from ≤ j → j < r .to → (m : ℕ) → HasVerdict x j (codesOf words) m (sweepFrom x screen window unmasked) from r

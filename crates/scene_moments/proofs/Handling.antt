@@ -24,7 +24,7 @@ use Rattle.scene_steps.proofs.Walked.{Walked, none-taken, one-taken, all-taken}
 use Rattle.scene_moments.specs.declared.moment.Moment.{Moment}
 use Rattle.scene_moments.specs.declared.moment.Until.{Until}
 use Rattle.scene_moments.specs.declared.moment.Came.{Came}
-use Rattle.scene_moments.specs.declared.moment.Came.the-variants.{Never, On, Lost}
+use Rattle.scene_moments.specs.declared.moment.Came.the-variants.{Never, On, Held, Lost}
 use Rattle.scene_moments.specs.Moments.{UntilOf, added, came, cameIn, clears, clocksDue, comingIn, dueFrom, dueWithin, ended, menuPlayed, moment, pendingAt, stepPending, stepTaken, stepped, waited}
 
 -- ---- what is due
@@ -62,13 +62,13 @@ module _ (q : VrcIrq) (clock n d behind : ℕ) (e : d ≡ clocksDue q) (t : behi
 module _ (m : Moment) where
   -- by whether it is lost, and whether it has come
   abbrev byFlags : (lost came : Bool) → Came
-  byFlags lost come = cond lost (Lost (m .set) (m .clock)) (cond come (On (m .set)) (comingIn (m .clock) (clocksDue (m .irq))))
+  byFlags lost come = cond lost (Lost (m .set) (m .clock)) (cond come (Held (m .set) (m .clock)) (comingIn (m .clock) (clocksDue (m .irq))))
 
   pub is-lost : m .lost ≡ true → Lost (m .set) (m .clock) ≡ ended m
   is-lost l = ap (λ (b : Bool). byFlags b (m .came)) (sym l)
 
   module _ (l : m .lost ≡ false) where
-    pub has-come : m .came ≡ true → On (m .set) ≡ ended m
+    pub has-come : m .came ≡ true → Held (m .set) (m .clock) ≡ ended m
     has-come f = ap₂ byFlags (sym l) (sym f)
 
     module _ (d : ℕ) (e : d ≡ clocksDue (m .irq)) (f : m .came ≡ false) where

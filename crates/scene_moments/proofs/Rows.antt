@@ -16,5 +16,7 @@ lost-examples =
       before = refl;
       revisionB = refl;
       masked = refl;
+      held = refl;
+      taken = refl;
       unmasked = refl;
     }

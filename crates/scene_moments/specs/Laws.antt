@@ -6,7 +6,7 @@ use Prim.Native.Nat.{ℕ, _+_, _-_, _≤_, _<_}
 use Rattle.irq.specs.declared.VrcIrq.{VrcIrq}
 use Rattle.scene_moments.specs.declared.lines.Screen.{Screen}
 use Rattle.scene_moments.specs.declared.moment.Came.{Came}
-use Rattle.scene_moments.specs.declared.moment.Came.the-variants.{Never, On, Lost}
+use Rattle.scene_moments.specs.declared.moment.Came.the-variants.{Never, On, Held, Lost}
 use Rattle.scene_moments.specs.Lines.{earlyMargin, lateMargin, lineOf}
 use Rattle.scene_moments.specs.Moments.{came, moment}
 use Rattle.scene_moments.specs.Verdicts.{verdictOf}
@@ -45,11 +45,14 @@ pub record LostExamples : Type 0 where
   -- 60 clocks, 7 more, a reset
   pub reset : came false (0x100003C ∷ 0x1000007 ∷ 0x2000000 ∷ []) (moment soon 200) ≡ Lost 228 267
   -- 60 clocks, the latch, which clears nothing
-  pub latched : came false (0x100003C ∷ 0xF00000 ∷ []) (moment soon 200) ≡ On 228
+  pub latched : came false (0x100003C ∷ 0xF00000 ∷ []) (moment soon 200) ≡ Held 228 260
   -- 27 clocks, acknowledge: one clock before it is set
   pub before : came false (0x100001B ∷ 0xF00200 ∷ []) (moment soon 200) ≡ On 228
   -- the first on revision B, where the same address is control
   pub revisionB : came true (0x100003C ∷ 0xF00200 ∷ []) (moment soon 200) ≡ Lost 228 260
   -- with interrupts masked the window is lost, with interrupts open it is right
   pub masked : verdictOf false (Lost 228 260) (record { line = 0; dots = 0 }) 2 ≡ record { line = 2; off = 0; mark = 3 }
+  -- one that is pending at the end of the handler is taken there, on line 3, or with interrupts open as it is set
+  pub held : verdictOf false (Held 228 400) (record { line = 0; dots = 0 }) 2 ≡ record { line = 3; off = 1; mark = 2 }
+  pub taken : verdictOf true (Held 228 400) (record { line = 0; dots = 0 }) 2 ≡ record { line = 2; off = 0; mark = 0 }
   pub unmasked : verdictOf true (Lost 228 260) (record { line = 0; dots = 0 }) 2 ≡ record { line = 2; off = 0; mark = 0 }

@@ -22,7 +22,7 @@ use Rattle.scene_steps.specs.Steps.{stepCoded}
 use Rattle.scene_moments.specs.declared.moment.Moment.{Moment}
 use Rattle.scene_moments.specs.declared.moment.Until.{Until}
 use Rattle.scene_moments.specs.declared.moment.Came.{Came}
-use Rattle.scene_moments.specs.declared.moment.Came.the-variants.{Never, On, Lost}
+use Rattle.scene_moments.specs.declared.moment.Came.the-variants.{Never, On, Held, Lost}
 
 -- the clocks that a forecast means, 0 for never: one where it says 0, by irq_clocks' `ShortForecastLaw`
 abbrev pub dueFrom : IrqForecast → ℕ
@@ -96,9 +96,10 @@ menuPlayed b (code ∷ codes) m = menuPlayed b codes (stepped b (stepCoded code)
 abbrev pub comingIn : (clock due : ℕ) → Came
 comingIn clock d = cond (eqb d 0) Never (On (added clock d))
 
--- the interrupt's clock, if nothing else happens; of one that was lost, the clocks on which it was set and cleared
+-- the interrupt's clock, if nothing else happens; of one that came inside the handler, the clocks on which it was set and on which the handler
+-- ends, or cleared it
 abbrev pub ended : Moment → Came
-ended m = cond (m .lost) (Lost (m .set) (m .clock)) (cond (m .came) (On (m .set)) (comingIn (m .clock) (clocksDue (m .irq))))
+ended m = cond (m .lost) (Lost (m .set) (m .clock)) (cond (m .came) (Held (m .set) (m .clock)) (comingIn (m .clock) (clocksDue (m .irq))))
 
 -- the interrupt's clock, if a handler of these steps runs at a moment
 abbrev pub came : (revisionB : Bool) → List ℕ → Moment → Came

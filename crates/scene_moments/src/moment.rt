@@ -24,10 +24,12 @@ pub struct Moment {
     pub lost: bool,
 }
 
-// The clock on which the interrupt comes, or the clocks on which it is set and cleared by the handler.
+// The clock on which the interrupt comes. Of one that comes inside the handler, the clocks on which it is set and on which the
+// handler ends, with it pending, or clears it.
 pub enum Came {
     Never,
     On(u32),
+    Held(u32, u32),
     Lost(u32, u32),
 }
 
@@ -148,7 +150,7 @@ impl Moment {
             return Came::Lost(self.set, self.clock);
         }
         if self.came {
-            return Came::On(self.set);
+            return Came::Held(self.set, self.clock);
         }
         let clocks = clocks_due(self.irq);
         if clocks == 0 {

@@ -3,7 +3,7 @@ use crate::lines::Screen;
 use crate::lines::line_of;
 use crate::moment::Came;
 ghost use mathlib.Core.Path.{_≡_};
-ghost use Rattle.scene_moments.specs.Verdicts.{clearedOf, lostOn, onLine, seenAs, setOf, verdictOf};
+ghost use Rattle.scene_moments.specs.Verdicts.{clearedOf, countedOf, lostOn, onLine, seenAs, setOf, takenOn, verdictOf};
 
 // The marks, the worse the higher.
 pub const RIGHT: u8 = 0;
@@ -24,7 +24,8 @@ pub struct Verdict {
     pub mark: u8,
 }
 
-// What is seen of a moment: its verdict, and the clocks on which the interrupt is set and cleared, 0 where there is none.
+// What is seen of a moment: its verdict, the clock that counts of its interrupt, and the one on which it is cleared, 0 where there is
+// none.
 pub struct Seen {
     pub verdict: Verdict,
     pub set: u32,
@@ -69,6 +70,16 @@ fn lost_on(unmasked: bool, line: u32, window: u32) -> Verdict
     }
 }
 
+// The clock on which the console takes an interrupt that is pending at the handler's end.
+fn taken_on(unmasked: bool, set: u32, end: u32) -> u32
+    ensures { λ r. ⌜ r ≡ takenOn unmasked set end ⌝ }
+{
+    if unmasked {
+        return set;
+    }
+    end
+}
+
 // An interrupt, with where the writes end and the line on which it must come.
 pub fn verdict_of(unmasked: bool, came: Came, screen: Screen, window: u32) -> Verdict
     ensures { λ r. ⌜ r ≡ verdictOf unmasked came screen window ⌝ }
@@ -80,6 +91,7 @@ pub fn verdict_of(unmasked: bool, came: Came, screen: Screen, window: u32) -> Ve
             mark: NEVER,
         },
         Came::On(clock) => on_line(line_of(screen, clock), window),
+        Came::Held(set, end) => { on_line(line_of(screen, taken_on(unmasked, set, end)), window) }
         Came::Lost(set, cleared) => lost_on(unmasked, line_of(screen, set), window),
     }
 }
@@ -91,6 +103,7 @@ pub fn set_of(came: Came) -> u32
     match came {
         Came::Never => 0,
         Came::On(clock) => clock,
+        Came::Held(set, end) => set,
         Came::Lost(set, cleared) => set,
     }
 }
@@ -102,7 +115,20 @@ pub fn cleared_of(came: Came) -> u32
     match came {
         Came::Never => 0,
         Came::On(clock) => 0,
+        Came::Held(set, end) => 0,
         Came::Lost(set, cleared) => cleared,
+    }
+}
+
+// The clock that counts: on which the console takes the interrupt, or of one that is lost on which it is set.
+pub fn counted_of(unmasked: bool, came: Came) -> u32
+    ensures { λ r. ⌜ r ≡ countedOf unmasked came ⌝ }
+{
+    match came {
+        Came::Never => 0,
+        Came::On(taken) => taken,
+        Came::Held(set, end) => taken_on(unmasked, set, end),
+        Came::Lost(first, cleared) => first,
     }
 }
 
@@ -111,7 +137,7 @@ pub fn seen_as(unmasked: bool, came: Came, screen: Screen, window: u32) -> Seen
     ensures { λ r. ⌜ r ≡ seenAs unmasked came screen window ⌝ }
 {
     let verdict = verdict_of(unmasked, came, screen, window);
-    let set = set_of(came);
+    let set = counted_of(unmasked, came);
     let cleared = cleared_of(came);
     Seen {
         verdict,

@@ -15,7 +15,7 @@ use Rattle.irq.specs.declared.IrqClocked.{IrqClocked}
 use Rattle.irq.specs.Timing.{lineStep, lineLength, clockAnswer}
 use Rattle.irq_clocks.specs.Clocks.{irqClockedTimes}
 use Rattle.scene_moments.specs.declared.moment.Came.{Came}
-use Rattle.scene_moments.specs.declared.moment.Came.the-variants.{Never, On, Lost}
+use Rattle.scene_moments.specs.declared.moment.Came.the-variants.{Never, On, Held, Lost}
 use Rattle.scene_sweep.specs.declared.runs.Sweep.{Sweep}
 use Rattle.scene_sweep.specs.declared.runs.Run.{Run}
 use Rattle.scene_moments.specs.declared.verdict.Seen.{Seen}
@@ -23,7 +23,7 @@ use Rattle.scene_moments.specs.declared.verdict.Verdict.{Verdict}
 use Rattle.scene_moments.specs.declared.lines.Screen.{Screen}
 use Rattle.scene_moments.specs.Lines.{lineOf}
 use Rattle.scene_moments.specs.Moments.{came, moment}
-use Rattle.scene_moments.specs.Verdicts.{onLine, lostOn, verdictOf}
+use Rattle.scene_moments.specs.Verdicts.{onLine, lostOn, takenOn, verdictOf}
 use Rattle.scene_sweep.specs.declared.spans.Span.{Span}
 use Rattle.scene_sweep.specs.Spans.{SpanOf, spanOf, spanWith}
 use Rattle.scene_sweep.proofs.Spanning.{one-spanned, more-spanned}
@@ -83,10 +83,17 @@ module _ (u : Bool) (s : Screen) (window : ℕ) where
   agree : (a b : Came) → sameVerdict (told a) (told b) ≡ true → told a ≡ told b
   agree Never Never h = refl
   agree Never (On t) h = absurd (omega (arith, same-mark (told Never) (told (On t)) h, mark-low (lineOf s t) window))
+  agree Never (Held t e) h = absurd (omega (arith, same-mark (told Never) (told (Held t e)) h, mark-low (lineOf s (takenOn u t e)) window))
   agree Never (Lost t c) h = absurd (omega (arith, same-mark (told Never) (told (Lost t c)) h, lost-low u (lineOf s t) window))
   agree (On t) Never h = absurd (omega (arith, same-mark (told (On t)) (told Never) h, mark-low (lineOf s t) window))
+  agree (Held t e) Never h = absurd (omega (arith, same-mark (told (Held t e)) (told Never) h, mark-low (lineOf s (takenOn u t e)) window))
   agree (Lost t c) Never h = absurd (omega (arith, same-mark (told (Lost t c)) (told Never) h, lost-low u (lineOf s t) window))
   agree (On t) (On v) h = by-line window true true (lineOf s t) (lineOf s v) h
+  agree (On t) (Held v e) h = by-line window true true (lineOf s t) (lineOf s (takenOn u v e)) h
+  agree (Held t e) (On v) h = by-line window true true (lineOf s (takenOn u t e)) (lineOf s v) h
+  agree (Held t e) (Held v d) h = by-line window true true (lineOf s (takenOn u t e)) (lineOf s (takenOn u v d)) h
+  agree (Held t e) (Lost v c) h = by-line window true u (lineOf s (takenOn u t e)) (lineOf s v) h
+  agree (Lost t c) (Held v e) h = by-line window u true (lineOf s t) (lineOf s (takenOn u v e)) h
   agree (On t) (Lost v c) h = by-line window true u (lineOf s t) (lineOf s v) h
   agree (Lost t c) (On v) h = by-line window u true (lineOf s t) (lineOf s v) h
   agree (Lost t c) (Lost v d) h = by-line window u u (lineOf s t) (lineOf s v) h

@@ -1,16 +1,23 @@
 // What to change in a scene whose window is not right, and writes that reach nothing.
+use crate::playing::NOTHING;
 use crate::playing::play_steps;
+use crate::scene::MOST_STEPS;
 use crate::scene::NO_WINDOW;
 use crate::scene::Scene;
 use irq::VrcIrq;
+use registers::IrqRegister;
 use registers::Register;
 use registers::decode;
 use scene_moments::Verdict;
 use scene_moments::lines::Screen;
+use scene_moments::lines::screen_at;
+use scene_moments::moment::came_alone;
 use scene_moments::moment::clocks_due;
 use scene_moments::verdict::NEVER;
 use scene_moments::verdict::RIGHT;
+use scene_moments::verdict::verdict_of;
 use scene_steps::Step;
+use scene_steps::step::code_of;
 use scene_steps::step::step_coded;
 use text_output::ROOM;
 use text_output::forms::put_form;
@@ -52,22 +59,87 @@ fn put_never(
     )
 }
 
-// The latch that gives a line, for writes that end with control in line mode: 256 less the lines to go. Where it stands in the latch
-// already, the writes don't end so, and the formula says nothing.
-fn put_latch(screen: Screen, window: u32, stands: u8, out: &mut [u8; ROOM], len: usize) -> usize {
+// The latch that arms for a line, for writes that end with control in line mode: 256 less the lines to go.
+fn put_latch(screen: Screen, window: u32, out: &mut [u8; ROOM], len: usize) -> usize {
     let begin = screen.line as u32;
     let lines = std::num::wrapping_sub_u32(window, begin);
     let latch = std::num::wrapping_sub_u32(256, lines);
-    if (lines == 0) | (256 < lines) | (latch == stands as u32) {
+    if (lines == 0) | (256 < lines) {
         return len;
     }
-    let numbers = [window, latch, latch, lines];
+    let numbers = [window, latch, latch];
     put_form(
         out,
         len,
-        b"  change: for line %d the latch is $%h (F000=%h), 256 less %d lines\n",
+        b"  change: for line %d the latch is $%h (F000=%h): 256 less the lines to go\n",
         &numbers,
     )
+}
+
+// A step, with another byte where it writes the latch.
+fn with_latch(code: u32, revision_b: bool, latch: u8) -> u32 {
+    if let Step::Write(addr, val) = step_coded(code) {
+        if let Register::OfIrq(line) = decode(revision_b, addr) {
+            if let IrqRegister::Reload = line {
+                return code_of(Step::Write(addr, latch));
+            }
+        }
+    }
+    code
+}
+
+// The same of a step by its place.
+fn latched_at(writes: &[u32], i: usize, revision_b: bool, latch: u8) -> u32 {
+    if i < writes.len() {
+        return with_latch(writes[i], revision_b, latch);
+    }
+    NOTHING
+}
+
+fn latched(writes: &[u32], revision_b: bool, latch: u8) -> [u32; MOST_STEPS] {
+    let mut steps = [NOTHING; MOST_STEPS];
+    let mut i: usize = 0;
+    while i < MOST_STEPS {
+        steps[i] = latched_at(writes, i, revision_b, latch);
+        i += 1;
+    }
+    steps
+}
+
+// Whether the writes with another latch put the interrupt on a line.
+fn is_on_line(scene: Scene, fixed: &[u8], writes: &[u32], latch: u8) -> bool {
+    let steps = latched(writes, scene.revision_b, latch);
+    let all: &[u32] = &steps;
+    let ended = play_steps(scene, fixed, all, &all[0..0]);
+    let irq = ended.irq;
+    let at = scene.at;
+    let screen = screen_at(at, irq.prescalar_counter);
+    let verdict = verdict_of(scene.unmasked, came_alone(irq), screen, scene.window);
+    (ended.refusal == 0) & !irq.irq_pending & (verdict.mark == RIGHT)
+}
+
+// A latch so many lines nearer or farther, if it puts the interrupt on the line asked: the writes are played with it.
+fn put_other_latch(
+    scene: Scene,
+    irq: VrcIrq,
+    line: u32,
+    fixed: &[u8],
+    writes: &[u32],
+    out: &mut [u8; ROOM],
+    len: usize,
+) -> usize {
+    let near = std::num::wrapping_sub_u32(line, scene.window);
+    let latch = std::num::wrapping_add_u32(irq.reload as u32, near) % 256;
+    let numbers = [latch, scene.window];
+    if is_on_line(scene, fixed, writes, latch as u8) {
+        return put_form(
+            out,
+            len,
+            b"  change: F000=%h would put it on line %d\n",
+            &numbers,
+        );
+    }
+    len
 }
 
 // What to change, if a window is asked and the interrupt does not come on it.
@@ -84,14 +156,11 @@ pub(crate) fn put_changes(
     if (scene.window == NO_WINDOW) | (verdict.mark == RIGHT) | irq.irq_pending {
         return len;
     }
-    let mut told = len;
-    if verdict.mark == NEVER {
-        told = put_never(scene, fixed, writes, out, len);
+    if verdict.mark != NEVER {
+        return put_other_latch(scene, irq, verdict.line, fixed, writes, out, len);
     }
-    if irq.cycle_mode {
-        return told;
-    }
-    put_latch(screen, scene.window, irq.reload, out, told)
+    let told = put_never(scene, fixed, writes, out, len);
+    put_latch(screen, scene.window, out, told)
 }
 
 // Whether a write reaches neither a register nor PRG RAM.

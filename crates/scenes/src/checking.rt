@@ -6,6 +6,7 @@ use crate::letters::AFTER_MENU;
 use crate::letters::AT_END;
 use crate::letters::are_asked;
 use crate::letters::put_letters;
+use crate::playing::is_armed_behind;
 use crate::scene::NO_WINDOW;
 use crate::scene::Scene;
 use crate::totals::Outcome;
@@ -125,36 +126,39 @@ fn put_not_swept(out: &mut [u8; ROOM], len: usize, pending: bool) -> usize {
     )
 }
 
-// Whether an interrupt comes to nothing: it never comes, or a handler with interrupts masked clears it itself.
-fn is_nothing(came: Came, unmasked: bool) -> bool {
+// Whether an interrupt comes to nothing: it never comes, or a handler with interrupts masked clears it itself and leaves none behind.
+fn is_nothing(came: Came, unmasked: bool, armed: bool) -> bool {
     match came {
         Came::Never => true,
         Came::On(clock) => false,
-        Came::Lost(set, cleared) => !unmasked,
+        Came::Held(set, end) => false,
+        Came::Lost(set, cleared) => !(unmasked | armed),
     }
 }
 
-// A menu where no interrupt is to come. It must not arm one: it is played at the end of the writes.
+// A menu where no interrupt is to come. It must not arm one: it is played at the end of the writes, and `armed` says whether the
+// counter goes on behind it.
 fn check_arming(
     sweep: Sweep,
     irq: VrcIrq,
+    armed: bool,
     menu: &[u32],
     out: &mut [u8; ROOM],
     len: usize,
 ) -> Checked {
     let came = came_after(irq, 0, sweep.revision_b, menu);
-    if is_nothing(came, sweep.unmasked) {
+    if is_nothing(came, sweep.unmasked, armed) {
         return unswept(true, put_not_swept(out, len, false));
     }
     let clock = set_of(came);
     let numbers = [line_of(sweep.screen, clock), clock];
-    let armed = put_form(
+    let told = put_form(
         out,
         len,
         b"  menu: arms an interrupt where none was to come, on line %d, clock %d\n",
         &numbers,
     );
-    unswept(false, armed)
+    unswept(false, told)
 }
 
 fn check_menu(
@@ -176,7 +180,8 @@ fn check_menu(
         return unswept(true, put_not_swept(out, len, true));
     }
     if clocks == 0 {
-        return check_arming(sweep, irq, menu, out, len);
+        let armed = is_armed_behind(scene, fixed, writes, menu);
+        return check_arming(sweep, irq, armed, menu, out, len);
     }
     let inside = put_inside(scene, irq, asked, sweep, fixed, writes, menu, out, len);
     let swept = sweep_clocks(sweep, irq, clocks, menu, out, inside.len);
@@ -201,15 +206,27 @@ fn is_right(ended: Ended, asked: [u32; 8], window: u32, verdict: Verdict) -> boo
         & ((window == NO_WINDOW) | (verdict.mark == RIGHT))
 }
 
-// A menu that is not right was asked about.
-fn kind_of(asked: [u32; 8], window: u32, menu: Checked, right: bool) -> u8 {
+// A menu that is not right was asked about. One that could not be tried, as the interrupt is pending already, leaves the scene unasked.
+fn kind_of(asked: [u32; 8], window: u32, menu: Checked, right: bool, untried: bool) -> u8 {
     if !(right & menu.right) {
         return WRONG_SCENE;
     }
-    if (window == NO_WINDOW) & !are_asked(asked) & !menu.swept {
+    if untried | ((window == NO_WINDOW) & !are_asked(asked) & !menu.swept) {
         return UNASKED_SCENE;
     }
     RIGHT_SCENE
+}
+
+// Over how many moments the menu was swept, if it was.
+fn put_moments(out: &mut [u8; ROOM], len: usize, menu: Checked) -> usize {
+    let numbers = [menu.moments, menu.wrong];
+    if !menu.swept {
+        return put(out, len, b'\n');
+    }
+    if menu.moments == 1 {
+        return put_form(out, len, b", %d moment, %d wrong\n", &numbers);
+    }
+    put_form(out, len, b", %d moments, %d wrong\n", &numbers)
 }
 
 // The last line of a scene.
@@ -221,13 +238,8 @@ fn put_kind(out: &mut [u8; ROOM], menu: Checked, kind: u8) -> Outcome {
         b"  verdict: wrong|  verdict: right|  verdict: nothing asked",
         place,
     );
-    let numbers = [menu.moments, menu.wrong];
-    let mut b = a;
-    if menu.swept {
-        b = put_form(out, a, b", %d moments, %d wrong", &numbers);
-    }
-    let c = put(out, b, b'\n');
-    Outcome::played(kind, menu.moments, menu.wrong, c)
+    let b = put_moments(out, a, menu);
+    Outcome::played(kind, menu.moments, menu.wrong, b)
 }
 
 // The letters, behind the menu if there is one.
@@ -266,6 +278,7 @@ pub(crate) fn check(
     let d = put_unreached(scene.revision_b, writes, menu, out, c);
     let e = put_after(out, d, ended, asked, menu);
     let checked = check_menu(scene, irq, asked, sweep, fixed, writes, menu, out, e);
-    let kind = kind_of(asked, scene.window, checked, right);
+    let untried = irq.irq_pending & (menu.len() != 0);
+    let kind = kind_of(asked, scene.window, checked, right, untried);
     put_kind(out, checked, kind)
 }

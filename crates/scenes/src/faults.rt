@@ -44,6 +44,8 @@ pub const MANY_CELLS: usize = 6;
 
 pub const MANY_STEPS: usize = 7;
 
+pub const UNNAMED: usize = 8;
+
 // What is wrong with a word, by its place in the texts of `put_word_fault`. Scene_steps' numbers of steps are the first, and
 // those of pairs stand behind PAIRS; 0 is nothing.
 pub const PAIRS: usize = 7;
@@ -140,7 +142,8 @@ pub(crate) fn put_fault(
         |a quote is not closed, or something stands behind it\n\
         |blank\n\
         |more cells than the header has\n\
-        |more than 4096 steps\n",
+        |more than 4096 steps\n\
+        |a cell stands under a column without a name\n",
         fault,
     )
 }

@@ -6,6 +6,7 @@ use irq::VrcIrq;
 use scene_board::ended::Ended;
 use scene_board::ended::play_scene;
 use scene_board::inside::mark_letters;
+use scene_moments::moment::clocks_due;
 
 fn none() -> Ended {
     Ended {
@@ -87,4 +88,41 @@ pub(crate) fn mark_menu(
         }
     }
     marks
+}
+
+// Twice the steps that a cell may have.
+const BOTH: usize = 8192;
+
+// What is no step: it plays nothing.
+pub const NOTHING: u32 = 0x300_0000;
+
+// A step of two cells, one behind the other.
+fn step_of_both(first: &[u32], second: &[u32], i: usize) -> u32 {
+    let j = std::num::wrapping_sub_usize(i, first.len());
+    if i < first.len() {
+        return first[i];
+    }
+    if j < second.len() {
+        return second[j];
+    }
+    NOTHING
+}
+
+fn both_steps(first: &[u32], second: &[u32]) -> [u32; BOTH] {
+    let mut both = [NOTHING; BOTH];
+    let mut i: usize = 0;
+    while i < BOTH {
+        both[i] = step_of_both(first, second, i);
+        i += 1;
+    }
+    both
+}
+
+// Whether an interrupt is pending or to come behind the menu.
+pub(crate) fn is_armed_behind(scene: Scene, fixed: &[u8], writes: &[u32], menu: &[u32]) -> bool {
+    let both = both_steps(writes, menu);
+    let all: &[u32] = &both;
+    let ended = play_steps(scene, fixed, all, &all[0..0]);
+    let irq = ended.irq;
+    irq.irq_pending | (clocks_due(irq) != 0)
 }

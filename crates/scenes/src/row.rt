@@ -26,6 +26,10 @@ pub struct Row {
     pub next: usize,
     pub cells: usize,
     pub filled: usize,
+    // Where the header goes on, or that it has ended, and whether a cell stands under one of its cells that has no name.
+    pub head: usize,
+    pub headed: bool,
+    pub unnamed: bool,
     pub good: bool,
     pub len: usize,
 }
@@ -59,6 +63,21 @@ fn quote_fault(column: usize, wrong: u8) -> usize {
     wrong as usize
 }
 
+// The next cell of the header, beside the row's.
+fn take_head(given: Row, text: &[u8], separator: u8, blank: bool) -> Row {
+    let mut row = given;
+    if !given.headed {
+        return row;
+    }
+    let cell = cell_at(text, given.head, separator);
+    let from = cell.from;
+    let to = cell.to;
+    row.unnamed = given.unnamed | (is_empty(&text[from..to]) & !blank);
+    row.head = cell.next;
+    row.headed = !cell.last;
+    row
+}
+
 // Takes the next cell.
 fn take(
     given: Row,
@@ -69,10 +88,11 @@ fn take(
     cell: Cell,
     bytes: &[u8],
 ) -> Row {
-    let mut row = given;
+    let blank = is_empty(bytes);
+    let mut row = take_head(given, text, starts.separator, blank);
     row.next = cell.next;
     row.cells = std::num::wrapping_add_usize(given.cells, 1);
-    if !is_empty(bytes) {
+    if !blank {
         row.filled = row.cells;
     }
     if cell.wrong != 0 {
@@ -96,6 +116,9 @@ pub(crate) fn read_row(
         next: starts.row,
         cells: 0,
         filled: 0,
+        head: starts.header,
+        headed: true,
+        unnamed: false,
         good: true,
         len,
     };

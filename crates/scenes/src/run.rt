@@ -4,6 +4,7 @@ use crate::faults::BLANK;
 use crate::faults::MANY_CELLS;
 use crate::faults::NO_COLUMN;
 use crate::faults::SCENE;
+use crate::faults::UNNAMED;
 use crate::faults::WRITES;
 use crate::faults::put_cell;
 use crate::faults::put_fault;
@@ -119,6 +120,9 @@ fn row_fault(row: Row, cells: usize) -> usize {
     }
     if cells < row.filled {
         return MANY_CELLS;
+    }
+    if row.unnamed {
+        return UNNAMED;
     }
     0
 }
