@@ -35,7 +35,7 @@ lineOf s c = s .line + dotsTo s c / lineLength
 abbrev pub dotAt : Screen → (clock : ℕ) → ℕ
 dotAt s c = dotsTo s c % lineLength
 
--- the fewest clocks earlier that are on another line, or before the writes end (docs/SCENES.md)
+-- the fewest clocks earlier that are on another line; where the writes end later than that there is none (docs/SCENES.md)
 unfoldable pub earlyMargin : Screen → (clock : ℕ) → ℕ
 earlyMargin s c = dotAt s c / lineStep + 1
 

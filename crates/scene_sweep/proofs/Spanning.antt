@@ -7,7 +7,7 @@ use lib.Dec.{leb, ltb}
 use borrow.Author.Tests.{leb-true, leb-false, ltb-true, ltb-false}
 use Rattle.base_shared.proofs.Tests.{tested}
 use Rattle.scene_sweep.specs.declared.spans.Span.{Span}
-use Rattle.scene_sweep.specs.Spans.{Met, SpanOf, spanOf, spanWith}
+use Rattle.scene_sweep.specs.Spans.{Reached, SpanOf, spanOf, spanWith}
 
 module _ (f : ℕ → ℕ) (from : ℕ) where
   -- one clock
@@ -26,10 +26,10 @@ module _ (f : ℕ → ℕ) (from : ℕ) where
     each P h here j a b =
         tested (leb k j) (λ t. let same : k ≡ j = omega (arith, leb-true k j t) in subst P same here) (λ t. h j a (leb-false k j t))
 
-    still : (n : ℕ) → Met f from k n → Met f from (k + 1) n
+    still : (n : ℕ) → Reached f from k n → Reached f from (k + 1) n
     still n m = record { clock = m .clock; behind = m .behind; before = omega (arith, m .before); is = m .is }
 
-    now : Met f from (k + 1) (f k)
+    now : Reached f from (k + 1) (f k)
     now = record { clock = k; behind = l; before = omega arith; is = refl }
 
     -- the next clock

@@ -22,7 +22,7 @@ abbrev pub spanWith : Span → ℕ → Span
 spanWith s n = record { least = lesser (s .least) n; most = greater (s .most) n }
 
 -- a clock from `from` to before `to` whose number is n
-pub record Met (f : ℕ → ℕ) (from to n : ℕ) : Type 0 where
+pub record Reached (f : ℕ → ℕ) (from to n : ℕ) : Type 0 where
   pub clock : ℕ
   pub behind : from ≤ clock
   pub before : clock < to
@@ -32,5 +32,5 @@ pub record Met (f : ℕ → ℕ) (from to n : ℕ) : Type 0 where
 pub record SpanOf (f : ℕ → ℕ) (from to : ℕ) (s : Span) : Type 0 where
   pub low : (j : ℕ) → from ≤ j → j < to → s .least ≤ f j
   pub high : (j : ℕ) → from ≤ j → j < to → f j ≤ s .most
-  pub least : Met f from to (s .least)
-  pub most : Met f from to (s .most)
+  pub least : Reached f from to (s .least)
+  pub most : Reached f from to (s .most)
