@@ -15,7 +15,7 @@ ghost use Rattle.registers.specs.Decode.{decode};
 ghost use Rattle.scene_moments.specs.Moments.{UntilOf, came, cameAlone, cameIn, clears, clocksDue, ended, moment, stepPending, stepTaken, stepped, waited};
 
 // The counter before the interrupt, the clocks since the end of the writes, whether the interrupt has come, which then was on
-// clock `set`, and whether a step of the handler cleared it, which then was the last.
+// clock `set`, and whether a step of the handler cleared it, behind which nothing counts.
 pub struct Moment {
     pub irq: VrcIrq,
     pub clock: u32,

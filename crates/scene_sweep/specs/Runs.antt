@@ -43,6 +43,6 @@ pub record RunOf (s : Sweep) (menu : List ℕ) (q : VrcIrq) (from n : ℕ) (r : 
   pub ends : (r .to ≡ n) ⊎ (seenFrom s menu q from (r .to) .verdict ≡ r .first .verdict → ⊥)
   -- the counter behind it
   pub counter : r .irq ≡ irqClockedTimes lineStep lineLength (r .to - from) q
-  -- from when to when the interrupt is set, and cleared
+  -- the clocks that count of its interrupts, and those on which they are cleared
   pub set : SpanOf (λ j. seenFrom s menu q from j .set) from (r .to) (r .set)
   pub cleared : SpanOf (λ j. seenFrom s menu q from j .cleared) from (r .to) (r .cleared)

@@ -19,8 +19,8 @@ pub struct Sweep {
     pub unmasked: bool,
 }
 
-// What is seen at a run's first clock, the clock behind its last, the counter at that clock, and the clocks on which the interrupt
-// is set and cleared.
+// What is seen at a run's first clock, the clock behind its last, the counter at that clock, and the clocks that count of its
+// interrupts and on which they are cleared.
 pub struct Run {
     pub first: Seen,
     pub to: u32,
