@@ -1,4 +1,6 @@
 // Whole numbers as f32s: the sum of the three channels, the test that an f32 is such a sum, and when two are one.
+#![tactic(auto)]
+
 pub mod pattern;
 
 ghost use Rattle.std.specs.Prelude.{◌≡◌, true};

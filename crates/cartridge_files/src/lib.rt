@@ -1,4 +1,5 @@
 // A file's bytes by its name.
+#![tactic(auto)]
 ghost use Rattle.std.specs.Prelude.{◌≤◌};
 ghost use Rattle.cartridge_files.specs.Files.{bytes_read};
 

@@ -1,4 +1,5 @@
 // What is printed of a cartridge, and of the number by which a file is refused.
+#![tactic(auto)]
 pub mod answers;
 mod letters;
 

@@ -1,5 +1,6 @@
 // Prints what cartridge files say, each under its name. An argument behind --rows names rows of headers, which are played
 // (oracle/FORMAT.md).
+#![tactic(auto)]
 mod files;
 mod row;
 mod rows;

@@ -2,6 +2,7 @@
 //
 // Every call is total and refuses by number. Refused, it leaves board and buffers as they were; only create leaves the
 // zero board. Board and buffers cross as references, an answer as a number or a small struct.
+#![tactic(auto)]
 pub mod files;
 
 ghost use Rattle.std.specs.Prelude.{◌≡◌};

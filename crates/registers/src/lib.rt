@@ -1,4 +1,6 @@
 // The registers of the board, and which of them a CPU write reaches (tetanes-core's m024_m026_vrc6.rs, `write_register`).
+#![tactic(auto)]
+
 ghost use Rattle.std.specs.Prelude.{◌≡◌, ◌+◌, ◌<◌, ◌≤◌};
 ghost use Rattle.registers.specs.declared.BankRegister.TheVariants.{Chr};
 ghost use Rattle.registers.specs.declared.Register.TheVariants.{OfBank};

@@ -1,4 +1,5 @@
 // The steps of a sheet, played on a board.
+#![tactic(auto)]
 pub mod ended;
 pub mod inside;
 

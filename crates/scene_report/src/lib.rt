@@ -1,4 +1,5 @@
 // What is printed of a verdict, and of a sweep.
+#![tactic(auto)]
 pub mod sweeping;
 
 use scene_moments::Verdict;

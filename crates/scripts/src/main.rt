@@ -1,5 +1,6 @@
 // Plays the scripts that its arguments name on the board (oracle/FORMAT.md), and prints a row for each expectation. Behind the argument
 // --answers an answer is printed for each call, as the Rust's driver does, and behind --full a dump after it.
+#![tactic(auto)]
 mod buffers;
 mod calls;
 mod clocks;

@@ -1,5 +1,6 @@
 // Text into an output buffer, which is written out when it is full. Each function takes how many bytes the buffer holds,
 // and hands back how many it holds then.
+#![tactic(auto)]
 pub mod forms;
 
 use libc::STDOUT_FILENO;

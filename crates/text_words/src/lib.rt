@@ -1,4 +1,6 @@
 // The words of a text, runs of bytes that are no blanks, and the numbers that they write.
+#![tactic(auto)]
+
 pub mod names;
 pub mod number;
 

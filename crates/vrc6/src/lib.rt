@@ -4,6 +4,7 @@
 // A call tests what it checks before anything changes, and refuses by number: 0 for none, otherwise the first failing
 // of the conditions 1, 2, 3 and 4. Refused, it gives the board back as it was, and leaves both buffers alone; only create
 // gives the zero board.
+#![tactic(auto)]
 pub mod board;
 pub mod clocks;
 pub mod create;
