@@ -9,7 +9,7 @@ use audio_shared::{high_bits, low_byte};
 use registers::ChannelRegister;
 
 #[repr(C)]
-#[derive(Drop)]
+#[derive(Clone, Copy)]
 pub struct Pulse {
     pub enabled: bool,
     pub volume: u8,

@@ -9,7 +9,7 @@ use audio_shared::{high_bits, low_byte};
 use registers::ChannelRegister;
 
 #[repr(C)]
-#[derive(Drop)]
+#[derive(Clone, Copy)]
 pub struct Saw {
     pub enabled: bool,
     pub accum: u8,

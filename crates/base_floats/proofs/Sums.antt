@@ -21,6 +21,7 @@ passes : {p : Bool} → p ≡ true → T p
 passes e = subst T (sym e) tt
 
 passed : (p : Bool) → T p → p ≡ true
+passed false t = elim t [ ]
 passed true t = refl
 
 -- ---- the f32s of 0..61

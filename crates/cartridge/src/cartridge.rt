@@ -6,7 +6,7 @@ use memory_layout::MemoryLayout;
 use vrc6_banking::banking::{Mirroring, Revision};
 
 // What a header states: lengths of ROM in the header's units, those of RAM in bytes.
-#[derive(Drop)]
+#[derive(Clone, Copy)]
 pub struct NesHeader {
     pub mapper_num: u16,
     // Units of 16,384 bytes.
@@ -22,7 +22,7 @@ pub struct NesHeader {
 }
 
 // What a board is created from, and where PRG and CHR begin in the file.
-#[derive(Drop)]
+#[derive(Clone, Copy)]
 pub struct Cartridge {
     pub layout: MemoryLayout,
     pub mirroring: Mirroring,

@@ -7,7 +7,7 @@ ghost use Rattle.cartridge_header.specs.Ines.{file_byte, header_checks, is_ines,
 use cartridge::{Cartridge, NesHeader};
 
 // The cartridge, or the number of the first condition that fails.
-#[derive(Drop)]
+#[derive(Clone, Copy)]
 pub enum HeaderRead {
     Accepted(Cartridge),
     Refused(u8),

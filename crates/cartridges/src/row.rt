@@ -18,7 +18,7 @@ pub const NO_EQUALS: usize = 3;
 
 pub const NO_ANSWER: usize = 4;
 
-#[derive(Drop)]
+#[derive(Clone, Copy)]
 pub struct Row {
     // The first bytes of the file; behind them it has zeros.
     pub head: [u8; 16],
@@ -28,13 +28,13 @@ pub struct Row {
     pub fault: usize,
 }
 
-#[derive(Drop)]
+#[derive(Clone, Copy)]
 struct Head {
     bytes: [u8; 16],
     good: bool,
 }
 
-#[derive(Drop)]
+#[derive(Clone, Copy)]
 struct Answer {
     numbers: [u32; 10],
     good: bool,

@@ -7,7 +7,7 @@ use text_output::forms::{put_form, put_nth, until};
 use text_output::{ROOM, flush, put, put_text};
 use text_words::next_word;
 
-#[derive(Drop)]
+#[derive(Clone, Copy)]
 pub struct Counts {
     pub line: u32,
     pub rows: u32,

@@ -13,7 +13,7 @@ use vrc6_engine::steady::Steady;
 
 // The level; its name, 0 silent, 1 held, 2 playing; the refusal's number. Refused, level and name are 0.
 #[repr(C)]
-#[derive(Drop)]
+#[derive(Clone, Copy)]
 pub struct EncodedLevel {
     pub level: f32,
     pub name: u8,
@@ -22,7 +22,7 @@ pub struct EncodedLevel {
 
 // The clocks until the interrupt, 0 where the counter is not armed or the call is refused.
 #[repr(C)]
-#[derive(Drop)]
+#[derive(Clone, Copy)]
 pub struct EncodedForecast {
     pub clocks: u32,
     pub armed: bool,
@@ -31,7 +31,7 @@ pub struct EncodedForecast {
 
 // A page is the 1,024 bytes from offset of the fixed buffer, or of the changing one. Refused, offset is 0.
 #[repr(C)]
-#[derive(Drop)]
+#[derive(Clone, Copy)]
 pub struct PageAt {
     pub offset: u32,
     pub changing: bool,
@@ -139,7 +139,7 @@ pub fn page_at(b: Board, fixed: &[u8], changing: &[u8], addr: u16) -> PageAt
 }
 
 // A board, and a clock's answer as one number.
-#[derive(Drop)]
+#[derive(Clone, Copy)]
 pub struct Numbered {
     pub board: Board,
     pub number: u8,

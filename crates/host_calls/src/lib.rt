@@ -191,7 +191,7 @@ pub extern "C" fn vrc6_cpu_write(
 
 // Whether a clock ticked, and the refusal's number.
 #[repr(C)]
-#[derive(Drop)]
+#[derive(Clone, Copy)]
 pub struct Tick {
     pub ticked: bool,
     pub refusal: u8,

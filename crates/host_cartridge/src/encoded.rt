@@ -10,7 +10,7 @@ use vrc6_banking::banking::{is_b, mirroring_number};
 
 // The cartridge with mirroring 0 to 4 and revision 0 for A and 1 for B. Refused, all is 0 but the number.
 #[repr(C)]
-#[derive(Drop)]
+#[derive(Clone, Copy)]
 pub struct EncodedCartridge {
     pub layout: MemoryLayout,
     pub mirroring: u8,

@@ -10,7 +10,7 @@ use vrc6_banking::banking::{Mirroring, Revision, Settings};
 
 // The settings of creation by numbers: mirroring 0 to 4, revision 0 for A and 1 for B, bus setting 0 for off and 1 for on.
 #[repr(C)]
-#[derive(Drop)]
+#[derive(Clone, Copy)]
 pub struct NumberedSettings {
     pub mirroring: u8,
     pub revision: u8,

@@ -15,7 +15,7 @@ pub const LINE: u16 = 341;
 
 // In this order it takes ten bytes. A struct of eight is passed as one number, which is slower to take apart.
 #[repr(C)]
-#[derive(Drop)]
+#[derive(Clone, Copy)]
 pub struct VrcIrq {
     pub reload: u8,
     pub prescalar_counter: u16,
@@ -27,14 +27,14 @@ pub struct VrcIrq {
 }
 
 // A clock's answer: the counter after it, and whether it ticked.
-#[derive(Drop)]
+#[derive(Clone, Copy)]
 pub struct IrqClocked {
     pub irq: VrcIrq,
     pub ticked: bool,
 }
 
 // The clocks until the counter sets pending.
-#[derive(Drop)]
+#[derive(Clone, Copy)]
 pub enum IrqForecast {
     None,
     In(u32),

@@ -7,7 +7,7 @@ ghost use Rattle.irq_clocks.specs.Clocks.{irq_clocked_times, lines_gone, Unset};
 use irq::VrcIrq;
 
 // The lines that end within some clocks, and the prescaler after them.
-#[derive(Drop)]
+#[derive(Clone, Copy)]
 pub struct Lines {
     pub ended: u32,
     pub prescaler: u16,

@@ -53,7 +53,7 @@ pub fn byte_shown(page: Page, fixed: &[u8], changing: &[u8], addr: u16) -> u8
 
 // A byte that was asked for, 0 where it is refused, and the refusal's number.
 #[repr(C)]
-#[derive(Drop)]
+#[derive(Clone, Copy)]
 pub struct Peeked {
     pub byte: u8,
     pub refusal: u8,

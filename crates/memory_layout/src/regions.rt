@@ -9,7 +9,7 @@ use memory_pages::Page;
 
 // Byte lengths as the cartridge states them.
 #[repr(C)]
-#[derive(Drop)]
+#[derive(Clone, Copy)]
 pub struct MemoryLayout {
     pub prg_rom: u32,
     pub chr: u32,
@@ -20,7 +20,7 @@ pub struct MemoryLayout {
 }
 
 // Which backing region a mapping refers to.
-#[derive(Drop)]
+#[derive(Clone, Copy)]
 pub enum Src {
     PrgRom,
     PrgRam,
@@ -29,7 +29,7 @@ pub enum Src {
 }
 
 // A region of the two buffers, its offsets counted from the fixed one on into the changing one.
-#[derive(Drop)]
+#[derive(Clone, Copy)]
 pub struct Region {
     pub start: u32,
     pub len: u32,

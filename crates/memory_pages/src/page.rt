@@ -4,7 +4,7 @@ ghost use Rattle.memory_pages.specs.Pages.{bits, entry, found, is_unmapped, page
 
 // Bits 0 to 29 hold an offset into the buffers, bit 31 says that the page takes writes, bit 30 is clear.
 #[repr(C)]
-#[derive(Drop)]
+#[derive(Clone, Copy)]
 pub struct Page(u32);
 
 impl Page {
@@ -79,7 +79,7 @@ impl Page {
 }
 
 // What a lookup finds. An unmapped entry is told apart, so that a caller can give it a meaning of its own.
-#[derive(Drop)]
+#[derive(Clone, Copy)]
 pub enum Lookup {
     Unmapped,
     Mapped(Page),

@@ -9,7 +9,7 @@ use crate::{bank_base, bank_count};
 use memory_layout::Region;
 use memory_pages::Page;
 
-#[derive(Drop)]
+#[derive(Clone, Copy)]
 pub struct PageRing {
     pub first: Page,
     // How many pages there are, at least 1.
@@ -70,7 +70,7 @@ impl PageRing {
 }
 
 // Eight entries, one page of a ring behind the other, from a page on.
-#[derive(Drop)]
+#[derive(Clone, Copy)]
 pub struct RingRun {
     pub ring: PageRing,
     pub from: u32,

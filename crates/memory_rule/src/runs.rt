@@ -9,7 +9,7 @@ use memory_layout::Region;
 use memory_pages::Page;
 
 // Eight entries: the first, and how many pages each lies behind the one before, which is 1 or, if all are the same, 0.
-#[derive(Drop)]
+#[derive(Clone, Copy)]
 pub struct EntryRun {
     pub first: Page,
     pub step: u32,

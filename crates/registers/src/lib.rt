@@ -7,7 +7,7 @@ ghost use Rattle.registers.specs.declared.Register.TheVariants.{OfBank};
 ghost use Rattle.registers.specs.Decode.{channel_register, decode, lines};
 
 // The eleven bank registers.
-#[derive(Drop)]
+#[derive(Clone, Copy)]
 pub enum BankRegister {
     // $8000..3, the 16 KiB bank at $8000.
     Prg16,
@@ -20,7 +20,7 @@ pub enum BankRegister {
 }
 
 // The three registers that both pulses and the saw have.
-#[derive(Drop)]
+#[derive(Clone, Copy)]
 pub enum ChannelRegister {
     // $9000 and $A000, volume and duty; $B000, the saw's rate.
     Volume,
@@ -31,7 +31,7 @@ pub enum ChannelRegister {
 }
 
 // The ten sound registers.
-#[derive(Drop)]
+#[derive(Clone, Copy)]
 pub enum AudioRegister {
     // $9000..2.
     Pulse1(ChannelRegister),
@@ -44,7 +44,7 @@ pub enum AudioRegister {
 }
 
 // The three interrupt registers.
-#[derive(Drop)]
+#[derive(Clone, Copy)]
 pub enum IrqRegister {
     // $F000.
     Reload,
@@ -55,7 +55,7 @@ pub enum IrqRegister {
 }
 
 // What a write reaches: nothing below $8000, at $A003 and at $F003.
-#[derive(Drop)]
+#[derive(Clone, Copy)]
 pub enum Register {
     Nothing,
     OfBank(BankRegister),

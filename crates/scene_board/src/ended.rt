@@ -10,7 +10,7 @@ use memory_pages::Page;
 use scene_banks::bank_shown;
 
 // The counter and the banks at the end of the writes, the banks behind the menu, and the number if the board was refused.
-#[derive(Drop)]
+#[derive(Clone, Copy)]
 pub struct Ended {
     pub irq: VrcIrq,
     pub banks: [u32; 8],

@@ -19,7 +19,7 @@ pub const UNCLOSED: u8 = 1;
 pub const BEHIND_QUOTE: u8 = 2;
 
 // A cell's bytes, inside its quotes if it has any; where the next cell or row starts; whether it is its row's last.
-#[derive(Drop)]
+#[derive(Clone, Copy)]
 pub struct Cell {
     pub from: usize,
     pub to: usize,

@@ -6,7 +6,7 @@ use crate::columns::column_of;
 use crate::{Cell, cell_at};
 
 // Where the header has a column: how many cells stand before it.
-#[derive(Drop)]
+#[derive(Clone, Copy)]
 pub enum Found {
     At(usize),
     Missing,

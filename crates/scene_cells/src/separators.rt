@@ -7,7 +7,7 @@ use crate::{after, cell_at, ends_row};
 use text_words::names::same_name;
 
 // Excel's first line `sep=;`: the separator, and where the header starts behind it.
-#[derive(Drop)]
+#[derive(Clone, Copy)]
 pub enum SepLine {
     Given(u8, usize),
     None,

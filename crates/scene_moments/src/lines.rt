@@ -6,7 +6,7 @@ use irq::{LINE, STEP};
 use scene_steps::picture::At;
 
 // Where the writes end: the line, and the dots of it that have gone by.
-#[derive(Drop)]
+#[derive(Clone, Copy)]
 pub struct Screen {
     pub line: u16,
     pub dots: u16,

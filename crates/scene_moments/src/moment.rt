@@ -11,7 +11,7 @@ use scene_steps::step::step_coded;
 
 // The counter before the interrupt, the clocks since the end of the writes, whether the interrupt has come, which then was on
 // clock `set`, and whether a step of the handler cleared it, behind which nothing counts.
-#[derive(Drop)]
+#[derive(Clone, Copy)]
 pub struct Moment {
     pub irq: VrcIrq,
     pub clock: u32,
@@ -22,7 +22,7 @@ pub struct Moment {
 
 // The clock on which the interrupt comes. Of one that comes inside the handler, the clocks on which it is set and on which the
 // handler ends, with it pending, or clears it.
-#[derive(Drop)]
+#[derive(Clone, Copy)]
 pub enum Came {
     Never,
     On(u32),
@@ -158,7 +158,7 @@ impl Moment {
 }
 
 // What the first steps of a handler leave, up to the one in which the interrupt comes, and how many they are.
-#[derive(Drop)]
+#[derive(Clone, Copy)]
 pub struct Until {
     pub moment: Moment,
     pub steps: usize,

@@ -18,7 +18,7 @@ pub const NEVER: u8 = 4;
 
 // The interrupt's line, how many lines it is off, and its mark. One that is lost is not off; of one that never comes both numbers
 // are 0.
-#[derive(Drop)]
+#[derive(Clone, Copy)]
 pub struct Verdict {
     pub line: u32,
     pub off: u32,
@@ -27,7 +27,7 @@ pub struct Verdict {
 
 // What is seen of a moment: its verdict, the clock that counts of its interrupt, and the one on which it is cleared, 0 where there is
 // none.
-#[derive(Drop)]
+#[derive(Clone, Copy)]
 pub struct Seen {
     pub verdict: Verdict,
     pub set: u32,

@@ -8,7 +8,7 @@ use scene_sweep::{Sweep, Tally};
 use text_output::ROOM;
 
 // The moments that are wrong, the bar, and how many bytes the output buffer holds.
-#[derive(Drop)]
+#[derive(Clone, Copy)]
 pub struct Swept {
     pub tally: Tally,
     pub bar: [u8; 64],

@@ -15,7 +15,7 @@ pub const NO_BANK: u8 = 3;
 // Asked of a slot that may show any bank.
 pub const ANY_BANK: u32 = 0xFFFF_FFFF;
 
-#[derive(Drop)]
+#[derive(Clone, Copy)]
 pub enum Pair {
     Letter(u32, u32),
     // The number says what is wrong.

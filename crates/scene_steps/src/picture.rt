@@ -18,7 +18,7 @@ pub const NO_DOT: u8 = 2;
 
 pub const MANY_WORDS: u8 = 3;
 
-#[derive(Drop)]
+#[derive(Clone, Copy)]
 pub enum At {
     // The cell is blank.
     Unsaid,

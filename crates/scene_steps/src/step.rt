@@ -25,7 +25,7 @@ pub const MANY_CLOCKS: u8 = 6;
 
 pub const NO_STEP: u8 = 7;
 
-#[derive(Drop)]
+#[derive(Clone, Copy)]
 pub enum Step {
     Write(u16, u8),
     Clocks(u32),

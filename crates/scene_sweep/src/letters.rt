@@ -7,7 +7,7 @@ use irq::VrcIrq;
 use scene_moments::moment::came_in;
 
 // How many, the first clock, and the step of the menu in which the interrupt comes there. Of none both say nothing.
-#[derive(Drop)]
+#[derive(Clone, Copy)]
 pub struct Met {
     pub count: u32,
     pub first: u32,

@@ -10,7 +10,7 @@ use scene_moments::verdict::{Seen, Verdict, seen_as};
 
 // What all moments of a sweep share: where the writes end, the revision, the line that is right, and whether the handler leaves
 // interrupts open.
-#[derive(Drop)]
+#[derive(Clone, Copy)]
 pub struct Sweep {
     pub screen: Screen,
     pub revision_b: bool,
@@ -20,7 +20,7 @@ pub struct Sweep {
 
 // What is seen at a run's first clock, the clock behind its last, the counter at that clock, and the clocks that count of its
 // interrupts and on which they are cleared.
-#[derive(Drop)]
+#[derive(Clone, Copy)]
 pub struct Run {
     pub first: Seen,
     pub to: u32,

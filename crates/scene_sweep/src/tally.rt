@@ -6,14 +6,14 @@ use crate::runs::Run;
 use scene_moments::verdict::{LOST, NEVER, RIGHT, Seen, Verdict};
 
 // A clock at which the menu is wrong, and what is seen there.
-#[derive(Drop)]
+#[derive(Clone, Copy)]
 pub struct Wrong {
     pub clock: u32,
     pub seen: Seen,
 }
 
 // Where none is wrong, the first and the worst say nothing.
-#[derive(Drop)]
+#[derive(Clone, Copy)]
 pub struct Tally {
     pub count: u32,
     pub first: Wrong,

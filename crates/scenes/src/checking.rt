@@ -19,7 +19,7 @@ use text_output::forms::{put_form, put_nth};
 use text_output::{ROOM, put, put_text};
 
 // What the menu came to: whether it is right, whether it was swept, and over how many moments, and how many are wrong.
-#[derive(Drop)]
+#[derive(Clone, Copy)]
 struct Checked {
     right: bool,
     swept: bool,

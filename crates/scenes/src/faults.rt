@@ -72,7 +72,7 @@ pub const NO_INTERRUPTS: usize = 20;
 pub const PLACES: usize = 20;
 
 // Where a fault is: the row, the column, and whether the cell is in quotes.
-#[derive(Drop)]
+#[derive(Clone, Copy)]
 pub struct Place {
     pub row: u32,
     pub column: usize,

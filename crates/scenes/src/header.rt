@@ -12,7 +12,7 @@ use text_words::is_empty;
 
 // Where the header starts and ends, what stands between cells, how many cells it has, whether it will do, and how many bytes the
 // output buffer holds.
-#[derive(Drop)]
+#[derive(Clone, Copy)]
 pub struct HeaderRow {
     pub start: usize,
     pub separator: u8,

@@ -10,7 +10,7 @@ use scene_sweep::{Met, Sweep};
 use text_output::ROOM;
 
 // Whether no interrupt meets wrong letters, and how many bytes the output buffer holds.
-#[derive(Drop)]
+#[derive(Clone, Copy)]
 pub struct Inside {
     pub right: bool,
     pub len: usize,

@@ -9,7 +9,7 @@ use text_output::ROOM;
 use text_words::next_word;
 
 // How many words were taken, whether all were right, and how many bytes the output buffer holds.
-#[derive(Drop)]
+#[derive(Clone, Copy)]
 pub struct Words {
     pub count: usize,
     pub good: bool,

@@ -10,7 +10,7 @@ use text_output::ROOM;
 use text_words::is_empty;
 
 // Where the header and a row start, and what stands between cells.
-#[derive(Drop)]
+#[derive(Clone, Copy)]
 pub struct Starts {
     pub header: usize,
     pub row: usize,
@@ -19,7 +19,7 @@ pub struct Starts {
 
 // A row's end, how many cells were read, how many it has up to the last that is not blank, what is wrong, and the output buffer's
 // bytes.
-#[derive(Drop)]
+#[derive(Clone, Copy)]
 pub struct Row {
     pub next: usize,
     pub cells: usize,

@@ -8,7 +8,7 @@ pub const NO_WINDOW: u32 = 0xFFFF_FFFF;
 // The most steps that a cell may have.
 pub const MOST_STEPS: usize = 4096;
 
-#[derive(Drop)]
+#[derive(Clone, Copy)]
 pub struct Scene {
     pub layout: MemoryLayout,
     pub revision_b: bool,

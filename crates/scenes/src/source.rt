@@ -16,7 +16,7 @@ const MOST_PATH: usize = 4095;
 // The file can't be read. The numbers of `read_header` are 5, 6 and 7.
 const UNREAD: u8 = 1;
 
-#[derive(Drop)]
+#[derive(Clone, Copy)]
 pub struct Source {
     // Without a file it stands for empty cells.
     pub cartridge: Cartridge,

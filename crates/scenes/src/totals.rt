@@ -12,7 +12,7 @@ pub const RIGHT_SCENE: u8 = 3;
 // A scene that asks nothing: no window, no letters, and no sweep.
 pub const UNASKED_SCENE: u8 = 4;
 
-#[derive(Drop)]
+#[derive(Clone, Copy)]
 pub struct Outcome {
     // One of the five above.
     pub kind: u8,
@@ -43,7 +43,7 @@ impl Outcome {
     }
 }
 
-#[derive(Drop)]
+#[derive(Clone, Copy)]
 pub struct Totals {
     // How many bytes the output buffer holds.
     pub len: usize,

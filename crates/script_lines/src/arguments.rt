@@ -26,7 +26,7 @@ pub const NO_CHOICE: u8 = 7;
 pub const NONE: u32 = u32::MAX;
 
 // An argument's value, where the next one is looked for, and what is wrong so far.
-#[derive(Drop)]
+#[derive(Clone, Copy)]
 pub struct Argument {
     pub value: u32,
     pub next: usize,
@@ -71,7 +71,7 @@ fn of_number(line: &[u8], number: Number, next: usize, none: u8) -> Argument
 }
 
 // Where an argument's word starts and ends, where the next one is looked for, and what is wrong so far.
-#[derive(Drop)]
+#[derive(Clone, Copy)]
 pub struct Place {
     pub from: usize,
     pub to: usize,

@@ -12,7 +12,7 @@ use text_words::names::{byte_of_nth, place_in};
 use text_words::next_word;
 
 // The place of a line's name, its arguments, and what is wrong with it.
-#[derive(Drop)]
+#[derive(Clone, Copy)]
 pub struct Line {
     pub what: u8,
     pub a: u32,

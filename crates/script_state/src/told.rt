@@ -9,7 +9,7 @@ use vrc6::board::Forecast;
 use vrc6_calls::Answer;
 
 // The last call's answer; 0 where it says nothing of it.
-#[derive(Drop)]
+#[derive(Clone, Copy)]
 pub struct Told {
     pub refusal: u8,
     pub byte: u8,

@@ -13,7 +13,7 @@ use vrc6_banking::banking::{Mirroring, Revision, Settings};
 use vrc6_calls::{Call, step};
 
 // The board behind a line, and what the last call answered.
-#[derive(Drop)]
+#[derive(Clone, Copy)]
 pub struct Played {
     pub numbers: [u32; COUNT],
     pub told: Told,

@@ -7,7 +7,7 @@ use script_state::told::Told;
 use vrc6::Board;
 
 // The board after clocks, and what they told.
-#[derive(Drop)]
+#[derive(Clone, Copy)]
 pub struct Clocks {
     pub board: Board,
     pub told: Told,

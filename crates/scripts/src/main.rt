@@ -17,7 +17,7 @@ use libc::STDOUT_FILENO;
 use text_words::names::place_in;
 
 // What the arguments so far ask for.
-#[derive(Drop)]
+#[derive(Clone, Copy)]
 struct Options {
     answers: bool,
     full: bool,

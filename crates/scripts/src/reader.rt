@@ -4,7 +4,7 @@ use text_output::forms::until;
 
 // The bytes of the input that are held, where the next line begins among them, where the last one taken lies, whether there was none,
 // and whether it is longer than what can be held.
-#[derive(Drop)]
+#[derive(Clone, Copy)]
 pub struct Reader {
     pub held: usize,
     pub next: usize,

@@ -11,7 +11,7 @@ pub const TOO_LONG: u8 = 9;
 pub const NO_VALUE: u8 = 10;
 
 // How many bytes of the two buffers are lent.
-#[derive(Drop)]
+#[derive(Clone, Copy)]
 pub struct Lent {
     pub fixed: usize,
     pub changing: usize,
@@ -33,7 +33,7 @@ impl Lent {
     }
 }
 
-#[derive(Drop)]
+#[derive(Clone, Copy)]
 pub struct Session {
     // The board, and the board behind the last line that set something.
     pub numbers: [u32; COUNT],

@@ -75,7 +75,7 @@ pub fn until(text: &[u8], from: usize, byte: u8) -> usize
 }
 
 // A part of a text.
-#[derive(Drop)]
+#[derive(Clone, Copy)]
 struct Part {
     from: usize,
     to: usize,

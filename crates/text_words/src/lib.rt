@@ -9,7 +9,7 @@ ghost use Rattle.text_words.specs.Words.{is_blank, is_empty, only_word};
 ghost use Rattle.text_words.specs.Places.{FirstPlace, Found, WordAt};
 
 // Where a word starts and ends; at the line's end there is none, and both are equal.
-#[derive(Drop)]
+#[derive(Clone, Copy)]
 pub struct Word {
     pub from: usize,
     pub to: usize,

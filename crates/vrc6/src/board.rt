@@ -7,7 +7,7 @@ use vrc6_banking::banking::Banking;
 pub use vrc6_engine::answers::Forecast;
 
 #[repr(C)]
-#[derive(Drop)]
+#[derive(Clone, Copy)]
 pub struct Board {
     pub layout: MemoryLayout,
     pub prg_pages: [Page; 64],
@@ -20,46 +20,46 @@ pub struct Board {
 }
 
 // Both act alike.
-#[derive(Drop)]
+#[derive(Clone, Copy)]
 pub enum ResetKind {
     Soft,
     Hard,
 }
 
 // The answers. A refusal is a number, 0 for none.
-#[derive(Drop)]
+#[derive(Clone, Copy)]
 pub struct Created {
     pub board: Board,
     pub refusal: u8,
 }
 
-#[derive(Drop)]
+#[derive(Clone, Copy)]
 pub struct ByteRead {
     pub board: Board,
     pub byte: u8,
     pub refusal: u8,
 }
 
-#[derive(Drop)]
+#[derive(Clone, Copy)]
 pub struct Written {
     pub board: Board,
     pub refusal: u8,
 }
 
-#[derive(Drop)]
+#[derive(Clone, Copy)]
 pub struct Clocked {
     pub board: Board,
     pub ticked: bool,
     pub refusal: u8,
 }
 
-#[derive(Drop)]
+#[derive(Clone, Copy)]
 pub struct Leveled {
     pub board: Board,
     pub level: Level,
 }
 
-#[derive(Drop)]
+#[derive(Clone, Copy)]
 pub struct Forecasted {
     pub board: Board,
     pub forecast: Forecast,

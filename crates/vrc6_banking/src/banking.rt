@@ -9,14 +9,14 @@ use vrc6_slots::chr::chr_slots;
 use vrc6_slots::nametables::{mirroring_numbers, nametable_mirroring, nametable_numbers};
 
 // Revision B exchanges address lines 0 and 1.
-#[derive(Drop)]
+#[derive(Clone, Copy)]
 pub enum Revision {
     A,
     B,
 }
 
 // What a board is made with, beside its memory.
-#[derive(Drop)]
+#[derive(Clone, Copy)]
 pub struct Settings {
     pub mirroring: Mirroring,
     pub revision: Revision,
@@ -38,7 +38,7 @@ impl Settings {
 }
 
 #[repr(C)]
-#[derive(Drop)]
+#[derive(Clone, Copy)]
 pub struct Banking {
     pub banking_mode: u8,
     // The 16 KiB bank at $8000 and the 8 KiB bank at $C000.

@@ -12,7 +12,7 @@ use vrc6::board::{ByteRead, Clocked, Forecast, Forecasted, Leveled, ResetKind, W
 
 // A call with its arguments; a CPU read has the bus byte behind its address. Clock and CPU write stand twice, by value and for
 // their lent forms, which promise the same.
-#[derive(Drop)]
+#[derive(Clone, Copy)]
 pub enum Call {
     CpuRead(u16, u8),
     CpuWrite(u16, u8),
@@ -30,7 +30,7 @@ pub enum Call {
 
 // What a call says beside the board: a byte, a tick, a level or a forecast, and the refusal's number. The bytes of a
 // page view are lent back by the call itself.
-#[derive(Drop)]
+#[derive(Clone, Copy)]
 pub enum Answer {
     Byte(u8, u8),
     Done(u8),
@@ -41,7 +41,7 @@ pub enum Answer {
 }
 
 // The board after a call, and what the call says.
-#[derive(Drop)]
+#[derive(Clone, Copy)]
 pub struct Stepped {
     pub board: Board,
     pub answer: Answer,

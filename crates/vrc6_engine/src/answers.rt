@@ -7,7 +7,7 @@ use audio::{Audio, Level};
 use irq::{IrqForecast, VrcIrq};
 
 // The clocks until the interrupt, or the number of a refusal.
-#[derive(Drop)]
+#[derive(Clone, Copy)]
 pub enum Forecast {
     None,
     In(u32),
@@ -15,7 +15,7 @@ pub enum Forecast {
 }
 
 // Interrupt and sound after a reset, and the refusal's number.
-#[derive(Drop)]
+#[derive(Clone, Copy)]
 pub struct EngineReset {
     pub irq: VrcIrq,
     pub audio: Audio,

@@ -10,7 +10,7 @@ pub mod answers;
 pub mod steady;
 
 // Interrupt and sound after a clock, whether it ticked, and the refusal's number.
-#[derive(Drop)]
+#[derive(Clone, Copy)]
 pub struct EngineClocked {
     pub irq: VrcIrq,
     pub audio: Audio,

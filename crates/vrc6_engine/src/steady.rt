@@ -6,7 +6,7 @@ use audio::Audio;
 use irq::VrcIrq;
 
 // Whether the next clock is such a clock, and where it is, the timers after it.
-#[derive(Drop)]
+#[derive(Clone, Copy)]
 pub struct Steady {
     pub yes: bool,
     pub timer1: u16,

@@ -1,0 +1,7 @@
+-- `Lookup::page` meets its contract. Assumes nothing.
+use borrow.Author.Rules.{rules}
+use Rattle.memory_pages.proofs.page.Lookup.page.Goals as goal
+
+pub returns-in-Unmapped : goal.returns-in-Unmapped
+returns-in-Unmapped c = rw c.enum_told-1.given.1
+
