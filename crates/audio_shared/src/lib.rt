@@ -1,5 +1,6 @@
 // What pulses and the saw have in common: the frequency.
 #![tactic(auto)]
+
 ghost use Rattle.std.specs.Prelude.{◌≡◌};
 ghost use Rattle.audio_shared.specs.Channels.{low_byte, high_bits};
 

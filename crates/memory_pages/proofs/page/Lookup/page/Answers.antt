@@ -3,5 +3,5 @@ use borrow.Author.Rules.{rules}
 use Rattle.memory_pages.proofs.page.Lookup.page.Goals as goal
 
 pub returns-in-Unmapped : goal.returns-in-Unmapped
-returns-in-Unmapped c = rw c.enum_told-1.given.1
+returns-in-Unmapped c = rw c.in-Unmapped.is
 
