@@ -1,9 +1,9 @@
 // Rows of headers: each is played, and those whose answer differs are printed.
 use crate::row::{LONGEST_FILE, Row, read_row};
-use cartridge_files::{FileRead, LONGEST, read_file};
+use cartridge_files::{FileRead, LONGEST, fail, read_file};
 use cartridge_header::read_header;
 use cartridge_report::answers::{answer_numbers, put_numbers};
-use std::io::{Error, Print, Stdout};
+use std::io::Stdout;
 use text_output::forms::{put_form, put_nth, until};
 use text_output::{Output, flush, put, put_text};
 use text_words::next_word;
@@ -182,16 +182,10 @@ fn play_first(stdout: Stdout, name: &[u8], bytes: &[u8; LONGEST], n: usize) {
     flush(&out, b);
 }
 
-// Says on standard error why a file can't be read.
-fn fail(rt: &HostRuntime, name: &[u8], error: Error) {
-    let _ = rt.stderr().write_all(name);
-    let _ = eprintln!(rt; ": {error}");
-}
-
 pub(crate) fn play_file(rt: &HostRuntime, name: &[u8]) {
     let mut bytes = [0u8; LONGEST];
     match read_file(rt, name, &mut bytes) {
         FileRead::Bytes(n) => play_first(rt.stdout(), name, &bytes, n),
-        FileRead::Failed(error) => fail(rt, name, error),
+        FileRead::Failed(error) => fail(rt.stderr(), name, error),
     }
 }
