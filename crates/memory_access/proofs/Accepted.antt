@@ -1,18 +1,18 @@
 -- What is known of an access that is not refused. Assumes nothing.
-use mathlib.Core.Path.{◌≡◌, refl, sym, ap, ◌∙◌}
-use mathlib.Core.Bool.{Bool, true, false, not, ◌&&◌, ◌||◌, false≢true}
+use mathlib.Core.Path.{◌≡◌, refl, sym, ◌∙◌}
+use mathlib.Core.Bool.{Bool, true, false, ◌&&◌, false≢true}
 use mathlib.Core.List.{List, [], ◌∷◌, ◌++◌}
-use mathlib.Core.Logic.{◌⊎◌, inl, inr, ⊎_elim}
-use Prim.Native.Nat.{ℕ, ◌+◌, ◌%◌, ◌≤◌, ◌<◌}
+use mathlib.Core.Logic.{◌⊎◌, ⊎_elim}
+use Prim.Native.Nat.{ℕ, ◌+◌, ◌≤◌, ◌<◌}
 use native.Mathlib.Omega.{arith}
-use lib.Dec.{leb, eqb}
+use lib.Dec.{eqb}
 use lib.ListN.{length}
-use borrow.Author.Tests.{leb-true, eqb-true}
+use borrow.Author.Tests.{eqb-true}
 use Rattle.base_shared.specs.Numbered.{AllHold}
 use Rattle.base_shared.proofs.Tests.{and_left, and_right}
 use Rattle.base_shared.proofs.Numbers.{none_fails}
 use Rattle.memory_pages.specs.declared.page.Page.{Page}
-use Rattle.memory_pages.specs.Pages.{offset, writable, spare}
+use Rattle.memory_pages.specs.Pages.{offset, writable}
 use Rattle.memory_layout.specs.declared.regions.MemoryLayout.{MemoryLayout}
 use Rattle.memory_layout.specs.Layout.{fixed_length, changing_length, layout_checks}
 use Rattle.memory_layout.specs.Entries.{entry_in_range}

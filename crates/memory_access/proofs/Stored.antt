@@ -1,10 +1,10 @@
 -- The laws of a byte stored, a view and a refused access. Assumes nothing.
-use mathlib.Core.Path.{◌≡◌, refl, sym, ap, ap₂, ◌∙◌}
+use mathlib.Core.Path.{◌≡◌, refl, sym, ap, ◌∙◌}
 use mathlib.Core.Bool.{Bool, true, false, cond}
 use mathlib.Core.List.{List, [], ◌++◌}
-use Prim.Native.Nat.{ℕ, zero, suc, ◌+◌, ◌-◌, ◌%◌, ◌≤◌, ◌<◌, min}
+use Prim.Native.Nat.{ℕ, zero, suc, ◌+◌, ◌-◌, ◌%◌, ◌≤◌, min}
 use native.Mathlib.Omega.{arith}
-use lib.ListN.{length, get_or, set, take, drop, length-set, length-append, length-take, length-drop}
+use lib.ListN.{length, get_or, set, drop, length-set, length-append, length-take, length-drop}
 use lib.Seq.{get_or-take, get_or-drop}
 use Rattle.base_shared.specs.Refusals.{unless}
 use Rattle.base_shared.proofs.Tests.{either, tested, unless_refused, unless_done}
@@ -12,7 +12,7 @@ use Rattle.memory_pages.specs.declared.page.Page.{Page}
 use Rattle.memory_pages.specs.Pages.{offset, writable}
 use Rattle.memory_layout.specs.declared.regions.MemoryLayout.{MemoryLayout}
 use Rattle.memory_access.specs.Access.{access_refusal, plain_refusal, place, byte_at, stored, page_bytes, peeked, written, viewed}
-use Rattle.memory_access.specs.Laws.{ByteStored, ByteStoredLaw, PageViewed, PageViewedLaw, Refused, AccessRefusedLaw}
+use Rattle.memory_access.specs.Laws.{ByteStoredLaw, PageViewedLaw, AccessRefusedLaw}
 use Rattle.memory_access.proofs.Accepted.{inside, behind}
 use Rattle.memory_access.proofs.Buffers.{stored_same, stored_other}
 

@@ -2,6 +2,7 @@
 // `prg_write`, `chr_peek`, `chr_write`). The functions take the parts of a board that they need, layout, entry and
 // buffers; `byte_shown` and `store` check nothing.
 #![tactic(auto)]
+
 ghost use Rattle.std.specs.Prelude.{◌≡◌, ◌++◌, ◌+◌, ◌≤◌, ◌<◌, get_or, length};
 ghost use Rattle.memory_pages.specs.Pages.{offset};
 ghost use Rattle.memory_access.specs.Access.{access_refusal, byte_at, peeked, plain_refusal, stored, viewed, written};

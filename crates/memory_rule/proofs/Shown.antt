@@ -1,20 +1,18 @@
 -- Every entry that the paging rule makes is one that the layout's boards can hold, for every layout, region and window. Assumes nothing.
 use mathlib.Core.Path.{◌≡◌, refl, sym, ap, ◌∙◌}
-use mathlib.Core.Bool.{Bool, true, false, cond, not, ◌&&◌, ◌||◌}
-use Prim.Native.Nat.{ℕ, ◌+◌, ◌*◌, ◌/◌, ◌%◌, ◌^◌, ◌≤◌, ◌<◌}
+use mathlib.Core.Bool.{Bool, true, false, cond}
+use Prim.Native.Nat.{ℕ, ◌+◌, ◌*◌, ◌%◌, ◌^◌, ◌≤◌, ◌<◌}
 use native.Mathlib.Omega.{arith}
 use native.Mathlib.Nat.{mod-lt, mod-mod_of_dvd, dvd_of_mod-eq-zero, mul_assoc, mul-mod_left}
 use lib.IntN.{ℤ}
-use lib.Dec.{eqb, leb}
-use borrow.Author.Tests.{eqb-false, le-leb, eq-eqb}
-use Rattle.base_shared.proofs.Tests.{both, tested}
-use Rattle.memory_pages.specs.declared.page.Page.{Page}
-use Rattle.memory_pages.specs.Pages.{entry, unmapped, offset, writable, spare}
+use lib.Dec.{eqb}
+use borrow.Author.Tests.{eqb-false}
+use Rattle.memory_pages.specs.Pages.{entry, unmapped}
 use Rattle.memory_layout.specs.declared.regions.MemoryLayout.{MemoryLayout}
 use Rattle.memory_layout.specs.declared.regions.Region.{Region}
 use Rattle.memory_layout.specs.declared.regions.Src.{Src}
 use Rattle.memory_layout.specs.declared.regions.Src.TheVariants.{PrgRom, PrgRam, Chr, CiRam}
-use Rattle.memory_layout.specs.Layout.{whole_pages, ciram_bytes, region_length, fixed_chr, changing_chr, fixed_length, changing_length, within_limits, region}
+use Rattle.memory_layout.specs.Layout.{whole_pages, ciram_bytes, region_length, fixed_length, changing_length, region}
 use Rattle.memory_rule.specs.Rule.{rem_euclid, bank_count, base, shown}
 use Rattle.memory_layout.specs.Entries.{entry_in_range}
 use Rattle.memory_layout.specs.Required.{Limits}

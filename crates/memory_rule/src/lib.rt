@@ -1,5 +1,6 @@
 // The paging rule: which page of a region each entry of a window shows (tetanes-core's memory.rs, `map_pages`).
 #![tactic(auto)]
+
 pub mod rings;
 pub mod runs;
 

@@ -5,5 +5,6 @@
 // An access is then a table lookup and an indexed load. The CPU's 64 KiB take 64 entries, the picture side's 16 KiB
 // take 16.
 #![tactic(auto)]
+
 pub mod chr_table;
 pub mod prg_table;
