@@ -6,4 +6,4 @@ use Rattle.cartridge_files.specs.declared.FileRead.TheVariants.{Bytes, Failed}
 -- how many bytes were read: none where reading failed
 abbrev pub bytes_read : FileRead → ℕ
 bytes_read (Bytes n) = n
-bytes_read Failed = 0
+bytes_read (Failed _) = 0

@@ -1,7 +1,11 @@
 // A file's bytes by its name.
 #![tactic(auto)]
+
 ghost use Rattle.std.specs.Prelude.{◌≤◌};
 ghost use Rattle.cartridge_files.specs.Files.{bytes_read};
+
+use std::fs::{Files, open};
+use std::io::{Error, ErrorKind, Read};
 
 // The longest cartridge file that counts: header, trainer, and as much PRG and CHR as a board takes. A longer one is read so far,
 // which changes nothing that its header says.
@@ -10,39 +14,55 @@ pub const LONGEST: usize = 524816;
 #[derive(Drop)]
 pub enum FileRead {
     Bytes(usize),
-    Failed,
+    // why it can't be read
+    Failed(Error),
 }
 
 // Whether all was read: so much as fits, or up to the file's end. A read that fails looks like the end, but then one more read
 // fails too, or finds bytes.
-fn was_read(fd: i32, n: usize) -> bool {
+fn was_read<F: Read>(file: &mut F, n: usize) -> Result<bool, Error> {
     if n == LONGEST {
-        return true;
+        return Ok(true);
     }
     let mut more = [0u8; 1];
-    libc::read(fd, &mut more) == 0
+    Ok(file.read(&mut more)? == 0)
 }
 
-fn read_bytes(fd: i32, bytes: &mut [u8; LONGEST]) -> usize
+fn read_bytes<F: Read>(file: &mut F, bytes: &mut [u8; LONGEST]) -> usize
     ensures { result ≤ 524816 }
 {
     let all: &mut [u8] = bytes;
-    io::read_full(fd, all)
+    let mut done: usize = 0;
+    while done < all.len() {
+        let Ok(n) = file.read(&mut all[done..]) else {
+            break;
+        };
+        if n == 0 {
+            break;
+        }
+        done += n;
+    }
+    done
 }
 
-// Fills the buffer from its start with the file's first bytes, and says how many they are. Where it fails, errno says why.
-pub fn read_file(path: &[u8], bytes: &mut [u8; LONGEST]) -> FileRead
+// Fills the buffer from its start with the file's first bytes, and says how many they are. A path is UTF-8 text.
+pub fn read_file(rt: &impl Files, path: &[u8], bytes: &mut [u8; LONGEST]) -> FileRead
     ensures { bytes_read result ≤ 524816 }
 {
-    let fd = os::open_read(path);
-    if fd < 0 {
-        return FileRead::Failed;
-    }
-    let n = read_bytes(fd, bytes);
-    let whole = was_read(fd, n);
-    libc::close(fd);
+    let Ok(text) = str::from_utf8(path) else {
+        return FileRead::Failed(Error::from(ErrorKind::InvalidFilename));
+    };
+    let mut file = match open(rt, text) {
+        Ok(file) => file,
+        Err(error) => return FileRead::Failed(error),
+    };
+    let n = read_bytes(&mut file, bytes);
+    let whole = match was_read(&mut file, n) {
+        Ok(whole) => whole,
+        Err(error) => return FileRead::Failed(error),
+    };
     if whole {
         return FileRead::Bytes(n);
     }
-    FileRead::Failed
+    FileRead::Failed(Error::from(ErrorKind::Interrupted))
 }

@@ -1,11 +1,11 @@
 // Text by a form: what stands in it as it is, and numbers put where it has marks.
 ghost use Rattle.std.specs.Prelude.{◌≤◌, length};
 
-use crate::{ROOM, put, put_capitals, put_digits, put_hexadecimal, put_number, put_text};
+use crate::{Output, put, put_capitals, put_digits, put_hexadecimal, put_number, put_text};
 
 // A number in the way that the letter behind a `%` says: d decimal, x hexadecimal, b two hexadecimal digits, h two in capitals, w eight,
 // c as a byte.
-fn put_marked(out: &mut [u8; ROOM], len: usize, letter: u8, n: u32) -> usize {
+fn put_marked(out: &mut Output, len: usize, letter: u8, n: u32) -> usize {
     match letter {
         b'd' => put_number(out, len, n),
         b'x' => put_hexadecimal(out, len, n),
@@ -17,7 +17,7 @@ fn put_marked(out: &mut [u8; ROOM], len: usize, letter: u8, n: u32) -> usize {
 }
 
 // A byte of a form, with the number that stands next.
-fn put_part(out: &mut [u8; ROOM], len: usize, marked: bool, byte: u8, n: u32) -> usize {
+fn put_part(out: &mut Output, len: usize, marked: bool, byte: u8, n: u32) -> usize {
     if marked {
         return put_marked(out, len, byte, n);
     }
@@ -44,7 +44,7 @@ fn counted(n: usize, b: bool) -> usize {
 }
 
 // The form, with the numbers in the places of its marks.
-pub fn put_form(out: &mut [u8; ROOM], len: usize, form: &[u8], numbers: &[u32]) -> usize {
+pub fn put_form(out: &mut Output, len: usize, form: &[u8], numbers: &[u32]) -> usize {
     let mut n = len;
     let mut next: usize = 0;
     let mut marked = false;
@@ -100,7 +100,7 @@ fn nth_part(parts: &[u8], place: usize) -> Part
 }
 
 // One of the parts of a text.
-pub fn put_nth(out: &mut [u8; ROOM], len: usize, parts: &[u8], place: usize) -> usize {
+pub fn put_nth(out: &mut Output, len: usize, parts: &[u8], place: usize) -> usize {
     let part = nth_part(parts, place);
     let from = part.from;
     let to = part.to;
@@ -109,7 +109,7 @@ pub fn put_nth(out: &mut [u8; ROOM], len: usize, parts: &[u8], place: usize) -> 
 
 // One of several forms, by its place.
 pub fn put_nth_form(
-    out: &mut [u8; ROOM],
+    out: &mut Output,
     len: usize,
     forms: &[u8],
     place: usize,

@@ -1,31 +1,48 @@
 // Text into an output buffer, which is written out when it is full. Each function takes how many bytes the buffer holds,
 // and hands back how many it holds then.
 #![tactic(auto)]
+
 pub mod forms;
 
-use libc::STDOUT_FILENO;
+use std::io::{Print, Stdout};
 
 pub const ROOM: usize = 65536;
 
-// Writes out what the buffer holds.
-pub fn flush(out: &[u8; ROOM], len: usize) {
-    let all: &[u8] = out;
-    if len <= all.len() {
-        io::write_all(STDOUT_FILENO, &all[0..len]);
+// The buffer, and where it is written out.
+#[derive(Drop)]
+pub struct Output {
+    bytes: [u8; ROOM],
+    stdout: Stdout,
+}
+
+impl Output {
+    pub fn new(stdout: Stdout) -> Output {
+        Output {
+            bytes: [0; ROOM],
+            stdout,
+        }
     }
 }
 
-pub fn put(out: &mut [u8; ROOM], len: usize, byte: u8) -> usize {
+// Writes out what the buffer holds.
+pub fn flush(out: &Output, len: usize) {
+    let all: &[u8] = &out.bytes;
+    if len <= all.len() {
+        let _ = out.stdout.write_all(&all[0..len]);
+    }
+}
+
+pub fn put(out: &mut Output, len: usize, byte: u8) -> usize {
     if len < ROOM {
-        out[len] = byte;
+        out.bytes[len] = byte;
         return len + 1;
     }
     flush(out, len);
-    out[0] = byte;
+    out.bytes[0] = byte;
     1
 }
 
-pub fn put_text(out: &mut [u8; ROOM], len: usize, text: &[u8]) -> usize {
+pub fn put_text(out: &mut Output, len: usize, text: &[u8]) -> usize {
     let mut n = len;
     let mut i: usize = 0;
     while i < text.len() {
@@ -45,7 +62,7 @@ fn glyph(digit: u32) -> u8 {
 }
 
 // The last decimal digit of what a number begins with, and nothing where that is 0.
-fn put_place(out: &mut [u8; ROOM], len: usize, begin: u32) -> usize {
+fn put_place(out: &mut Output, len: usize, begin: u32) -> usize {
     if begin == 0 {
         return len;
     }
@@ -53,7 +70,7 @@ fn put_place(out: &mut [u8; ROOM], len: usize, begin: u32) -> usize {
 }
 
 // A decimal number.
-pub fn put_number(out: &mut [u8; ROOM], len: usize, n: u32) -> usize {
+pub fn put_number(out: &mut Output, len: usize, n: u32) -> usize {
     let mut l = len;
     if n >= 1000 {
         l = put_place(out, l, n / 1_000_000_000);
@@ -70,7 +87,7 @@ pub fn put_number(out: &mut [u8; ROOM], len: usize, n: u32) -> usize {
 }
 
 // Nine decimal digits.
-fn put_nine(out: &mut [u8; ROOM], len: usize, n: u32) -> usize {
+fn put_nine(out: &mut Output, len: usize, n: u32) -> usize {
     let a = put(out, len, glyph(n / 100_000_000 % 10));
     let b = put(out, a, glyph(n / 10_000_000 % 10));
     let c = put(out, b, glyph(n / 1_000_000 % 10));
@@ -83,7 +100,7 @@ fn put_nine(out: &mut [u8; ROOM], len: usize, n: u32) -> usize {
 }
 
 // A decimal number of up to 18 digits.
-pub fn put_large(out: &mut [u8; ROOM], len: usize, n: u64) -> usize {
+pub fn put_large(out: &mut Output, len: usize, n: u64) -> usize {
     let low = (n % 1_000_000_000) as u32;
     let high = (n / 1_000_000_000 % 1_000_000_000) as u32;
     if high == 0 {
@@ -94,7 +111,7 @@ pub fn put_large(out: &mut [u8; ROOM], len: usize, n: u64) -> usize {
 }
 
 // The last hexadecimal digit of what a number begins with, and nothing where that is 0.
-fn put_hex_place(out: &mut [u8; ROOM], len: usize, begin: u32) -> usize {
+fn put_hex_place(out: &mut Output, len: usize, begin: u32) -> usize {
     if begin == 0 {
         return len;
     }
@@ -102,7 +119,7 @@ fn put_hex_place(out: &mut [u8; ROOM], len: usize, begin: u32) -> usize {
 }
 
 // A hexadecimal number.
-pub fn put_hexadecimal(out: &mut [u8; ROOM], len: usize, n: u32) -> usize {
+pub fn put_hexadecimal(out: &mut Output, len: usize, n: u32) -> usize {
     let mut l = put_hex_place(out, len, n / 0x1000_0000);
     l = put_hex_place(out, l, n / 0x100_0000);
     l = put_hex_place(out, l, n / 0x10_0000);
@@ -114,7 +131,7 @@ pub fn put_hexadecimal(out: &mut [u8; ROOM], len: usize, n: u32) -> usize {
 }
 
 // The first hexadecimal digits of the eight that a number has.
-pub fn put_digits(out: &mut [u8; ROOM], len: usize, n: u32, count: u32) -> usize {
+pub fn put_digits(out: &mut Output, len: usize, n: u32, count: u32) -> usize {
     let mut l = len;
     let mut rest = n;
     let mut left = count;
@@ -136,7 +153,7 @@ fn capital(digit: u32) -> u8 {
 }
 
 // The last two hexadecimal digits of a number, in capitals.
-pub fn put_capitals(out: &mut [u8; ROOM], len: usize, n: u32) -> usize {
+pub fn put_capitals(out: &mut Output, len: usize, n: u32) -> usize {
     let a = put(out, len, capital(n / 16));
     put(out, a, capital(n))
 }

@@ -5,7 +5,6 @@ use mathlib.Core.List.{List, [], ◌∷◌}
 use Prim.Native.Nat.{ℕ, zero, suc, ◌+◌, ◌-◌, ◌≤◌, ◌<◌, min}
 use native.Mathlib.Omega.{arith}
 use borrow.Author.Tests.{eq-eqb, ne_eqb}
-use lib.Dec.{eqb}
 use lib.Seq.{get_or-take, get_or-drop}
 use lib.ListN.{length, take, drop, get_or, length-drop, length-take, drop_of_length-le, get_or-eq_default}
 use Rattle.text_words.specs.Words.{from_first, from_word, is_blank, past_word, word_of}

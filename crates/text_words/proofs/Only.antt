@@ -9,7 +9,7 @@ use lib.Dec.{eqb}
 use lib.ListN.{length, take, drop, length-drop}
 use lib.Seq.{length-take-le}
 use Rattle.base_shared.proofs.Tests.{tested}
-use Rattle.text_words.specs.Words.{from_word, is_empty, only_word, past_word, word_of}
+use Rattle.text_words.specs.Words.{from_word, is_empty, only_word, word_of}
 use Rattle.text_words.specs.Places.{Found, WordAt}
 
 module _ (line text : List ℕ) (from to : ℕ) (f : Found line text from to) where

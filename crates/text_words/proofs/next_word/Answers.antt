@@ -1,5 +1,4 @@
 -- `next_word` meets its contract. Assumes nothing.
-use borrow.Author.Rules.{rules}
 use Rattle.text_words.proofs.Spans.{between, nothing}
 use Rattle.text_words.proofs.next_word.Goals as goal
 
@@ -8,4 +7,3 @@ returns-then-end-from c = nothing _ _ c.if-end-from.true
 
 pub returns : goal.returns
 returns c = between _ _ _ _ c.place_of-start.ensures c.place_of-stop.ensures
-

@@ -1,6 +1,5 @@
 -- `only_word` meets its contract. Assumes nothing.
 use Rattle.text_words.proofs.Only.{alone, several}
-use borrow.Author.Rules.{rules}
 use Rattle.text_words.proofs.only_word.Goals as goal
 
 pub returns-then-more : goal.returns-then-more
@@ -8,4 +7,3 @@ returns-then-more c = alone _ _ _ c.next_word-word.ensures _ _ c.next_word-more.
 
 pub returns : goal.returns
 returns c = several _ _ _ c.next_word-word.ensures _ _ c.next_word-more.ensures c.if-more.false
-

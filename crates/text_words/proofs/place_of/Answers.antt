@@ -1,10 +1,7 @@
 -- `place_of` meets its contract. Assumes nothing.
 use mathlib.Core.Path.{sym, ap, ◌∙◌}
 use mathlib.Core.Bool.{Bool, beq}
-use Prim.Native.Nat.{◌-◌}
-use borrow.Author.Rules.{rules}
-use lib.ListN.{length}
-use Rattle.text_words.proofs.Spans.{Passed, none, stops, goes_on, ends}
+use Rattle.text_words.proofs.Spans.{none, stops, goes_on, ends}
 use Rattle.text_words.proofs.place_of.Goals as goal
 
 pub loop-i-init : goal.loop-i-init
@@ -20,4 +17,3 @@ loop-i-preserved c = goes_on _ _ _ _ c.loop-i.invariant c.loop-i-test.true
 
 pub returns : goal.returns
 returns c = ends _ _ _ _ c.loop-i.invariant c.loop-i-test.false
-

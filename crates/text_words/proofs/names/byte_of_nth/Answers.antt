@@ -1,6 +1,4 @@
 -- `byte_of_nth` meets its contract. Assumes nothing.
-use borrow.Author.Rules.{rules}
-use native.Mathlib.Omega.{arith}
 use Rattle.text_words.proofs.Naming.{byte_in, byte_behind}
 use Rattle.text_words.proofs.names.byte_of_nth.Goals as goal
 
@@ -9,4 +7,3 @@ returns-then-i-to c = byte_in _ _ _ _ c.nth_word-word.ensures _ c.if-i-to.true
 
 pub returns : goal.returns
 returns c = byte_behind _ _ _ _ c.nth_word-word.ensures _ c.if-i-to.false
-

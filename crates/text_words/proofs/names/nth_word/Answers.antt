@@ -1,9 +1,6 @@
 -- `nth_word` meets its contract. Assumes nothing.
-use Prim.Native.Nat.{◌-◌}
 use native.Mathlib.Omega.{arith}
-use borrow.Author.Rules.{rules}
-use lib.ListN.{length}
-use Rattle.text_words.proofs.Naming.{Counted, uncounted, ended, this, later_word, steps, behind_last}
+use Rattle.text_words.proofs.Naming.{uncounted, ended, this, later_word, steps, behind_last}
 use Rattle.text_words.proofs.names.nth_word.Goals as goal
 
 pub loop-at-init : goal.loop-at-init
@@ -26,4 +23,3 @@ loop-at-preserved c = later_word _ _ _ _ c.loop-at.invariant c.loop-at-test.true
 
 pub returns : goal.returns
 returns c = behind_last _ _ _ _ c.loop-at.invariant c.loop-at-test.false
-

@@ -1,9 +1,7 @@
 -- `nth_word` meets its contract. Assumes nothing.
 use Prim.Native.Nat.{◌-◌}
-use native.Mathlib.Omega.{arith}
-use borrow.Author.Rules.{rules}
 use lib.ListN.{length}
-use Rattle.text_words.proofs.Naming.{Counted, uncounted, ended, this, later_word, steps, behind_last}
+use Rattle.text_words.proofs.Naming.{Counted}
 use Rattle.text_words.proofs.names.nth_word.Given as goal
 
 abbrev pub invariant-loop-at : goal.invariant-loop-at
@@ -11,4 +9,3 @@ invariant-loop-at l = Counted l.n l.text l.at l.left
 
 abbrev pub decreases-loop-at : goal.decreases-loop-at
 decreases-loop-at l = length l.text - l.at
-

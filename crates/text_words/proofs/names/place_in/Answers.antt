@@ -1,10 +1,7 @@
 -- `place_in` meets its contract. Assumes nothing.
 use mathlib.Core.Path.{sym}
-use Prim.Native.Nat.{◌-◌}
 use native.Mathlib.Omega.{arith}
-use borrow.Author.Rules.{rules}
-use lib.ListN.{length}
-use Rattle.text_words.proofs.Naming.{Looked, none, last, found, goes_on, moves, over}
+use Rattle.text_words.proofs.Naming.{none, last, found, goes_on, moves, over}
 use Rattle.text_words.proofs.names.place_in.Goals as goal
 
 pub loop-at-init : goal.loop-at-init
@@ -27,4 +24,3 @@ loop-at-preserved c = goes_on _ _ _ _ c.loop-at.invariant c.loop-at-test.true _ 
 
 pub returns : goal.returns
 returns c = record { value = over _ _ _ _ c.loop-at.invariant c.loop-at-test.false; upper_bound = omega (arith, c.loop-at.invariant.ahead.few, c.loop-at.invariant.ahead.within) }
-

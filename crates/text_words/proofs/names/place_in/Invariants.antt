@@ -1,10 +1,7 @@
 -- `place_in` meets its contract. Assumes nothing.
-use mathlib.Core.Path.{sym}
 use Prim.Native.Nat.{◌-◌}
-use native.Mathlib.Omega.{arith}
-use borrow.Author.Rules.{rules}
 use lib.ListN.{length}
-use Rattle.text_words.proofs.Naming.{Looked, none, last, found, goes_on, moves, over}
+use Rattle.text_words.proofs.Naming.{Looked}
 use Rattle.text_words.proofs.names.place_in.Given as goal
 
 abbrev pub invariant-loop-at : goal.invariant-loop-at
@@ -12,4 +9,3 @@ invariant-loop-at l = Looked l.names l.name l.place l.at
 
 abbrev pub decreases-loop-at : goal.decreases-loop-at
 decreases-loop-at l = length l.names - l.at
-

@@ -1,8 +1,5 @@
 -- `same_name` meets its contract. Assumes nothing.
-use Prim.Native.Nat.{◌-◌}
-use borrow.Author.Rules.{rules}
-use lib.ListN.{length}
-use Rattle.text_words.proofs.Same.{Alike, begun, differs, agrees, finished, other_length}
+use Rattle.text_words.proofs.Same.{begun, differs, agrees, finished, other_length}
 use Rattle.text_words.proofs.names.same_name.Goals as goal
 
 pub returns-then-a-b : goal.returns-then-a-b
@@ -19,4 +16,3 @@ loop-i-preserved c = agrees _ _ _ c.loop-i.invariant c.loop-i-test.true _ _ c.sm
 
 pub returns : goal.returns
 returns c = finished _ _ _ c.loop-i.invariant c.loop-i-test.false
-

@@ -1,8 +1,7 @@
 -- `same_name` meets its contract. Assumes nothing.
 use Prim.Native.Nat.{◌-◌}
-use borrow.Author.Rules.{rules}
 use lib.ListN.{length}
-use Rattle.text_words.proofs.Same.{Alike, begun, differs, agrees, finished, other_length}
+use Rattle.text_words.proofs.Same.{Alike}
 use Rattle.text_words.proofs.names.same_name.Given as goal
 
 abbrev pub invariant-loop-i : goal.invariant-loop-i
@@ -10,4 +9,3 @@ invariant-loop-i l = Alike l.a l.b l.i
 
 abbrev pub decreases-loop-i : goal.decreases-loop-i
 decreases-loop-i l = length l.a - l.i
-

@@ -11,4 +11,3 @@ returns-then-byte c = simp c.if-byte.true
 
 pub returns : goal.returns
 returns c = simp c.if-byte.false
-

@@ -7,4 +7,3 @@ returns-then-value-le4294967296 c = simp (le-leb _ _ c.if-value-le4294967296.tru
 
 pub returns : goal.returns
 returns c = simp (lt-leb _ _ c.if-value-le4294967296.false)
-

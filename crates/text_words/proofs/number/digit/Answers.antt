@@ -1,6 +1,5 @@
 -- `digit` meets its contract. Assumes nothing.
 use native.Mathlib.Omega.{arith}
-use borrow.Author.Rules.{rules}
 use Rattle.text_words.proofs.Digits.{from_low, to_high}
 use Rattle.text_words.proofs.number.digit.Goals as goal
 
@@ -24,4 +23,3 @@ returns-then-byte-3 c = (simp (c.if-byte.false, c.if-byte-2.false, c.if-byte-3.t
 
 pub returns : goal.returns
 returns c = (simp (c.if-byte.false, c.if-byte-2.false, c.if-byte-3.false), omega arith)
-

@@ -1,9 +1,6 @@
 -- `in_base` meets its contract. Assumes nothing.
-use Prim.Native.Nat.{◌-◌}
 use native.Mathlib.Omega.{arith}
-use borrow.Author.Rules.{rules}
-use lib.ListN.{length}
-use Rattle.text_words.proofs.Digits.{Read, none, more, bound, scaled, number_empty, no_digit, in_limit, over}
+use Rattle.text_words.proofs.Digits.{none, more, bound, scaled, number_empty, no_digit, in_limit, over}
 use Rattle.text_words.proofs.number.in_base.Goals as goal
 
 pub returns-then-word-eq0 : goal.returns-then-word-eq0
@@ -32,4 +29,3 @@ returns-then-value-limit c = in_limit _ _ _ _ _ c.loop-i.invariant c.loop-i-test
 
 pub returns : goal.returns
 returns c = over _ _ _ _ _ c.loop-i.invariant c.loop-i-test.false (omega (arith, c.if-word-eq0.false)) c.if-value-limit.false
-
