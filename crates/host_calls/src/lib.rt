@@ -26,8 +26,7 @@ use vrc6_parts::reads::{cpu_peek, picture_peek};
 use vrc6_parts::writes::{reached, write_byte};
 
 // Creation by numbers, since no enum crosses. A refused create leaves the zero board. The answer is the refusal's number.
-#[unsafe(no_mangle)]
-pub extern "C" fn vrc6_create(
+pub fn vrc6_create(
     board: &mut Board,
     layout: MemoryLayout,
     settings: NumberedSettings,
@@ -43,8 +42,7 @@ pub extern "C" fn vrc6_create(
 }
 
 // Soft and hard act alike, so there is one. The answer is the refusal's number.
-#[unsafe(no_mangle)]
-pub extern "C" fn vrc6_reset(board: &mut Board) -> u8
+pub fn vrc6_reset(board: &mut Board) -> u8
     ensures { (board.new ≡ (reset board.old).board) × (result ≡ (reset board.old).refusal) }
 {
     let b = *board;
@@ -53,16 +51,14 @@ pub extern "C" fn vrc6_reset(board: &mut Board) -> u8
     after.refusal
 }
 
-#[unsafe(no_mangle)]
-pub extern "C" fn vrc6_level(board: &mut Board) -> EncodedLevel
+pub fn vrc6_level(board: &mut Board) -> EncodedLevel
     ensures { (board.new ≡ board.old) × (result ≡ level_encoded (level board.old).level) }
 {
     let b = *board;
     encode_level(b)
 }
 
-#[unsafe(no_mangle)]
-pub extern "C" fn vrc6_forecast(board: &mut Board) -> EncodedForecast
+pub fn vrc6_forecast(board: &mut Board) -> EncodedForecast
     ensures { (board.new ≡ board.old) × (result ≡ forecast_encoded (forecast board.old).forecast) }
 {
     let b = *board;
@@ -70,8 +66,7 @@ pub extern "C" fn vrc6_forecast(board: &mut Board) -> EncodedForecast
 }
 
 // A byte, and no register. The answer is the refusal's number.
-#[unsafe(no_mangle)]
-pub extern "C" fn vrc6_picture_write(
+pub fn vrc6_picture_write(
     board: &mut Board,
     fixed: &[u8],
     changing: &mut [u8],
@@ -88,8 +83,7 @@ pub extern "C" fn vrc6_picture_write(
 }
 
 // Where the page of a picture address lies, for a host that keeps both buffers.
-#[unsafe(no_mangle)]
-pub extern "C" fn vrc6_page_view(
+pub fn vrc6_page_view(
     board: &mut Board,
     fixed: &[u8],
     changing: &[u8],
@@ -103,8 +97,7 @@ pub extern "C" fn vrc6_page_view(
 }
 
 // bus is the byte that the bus last held: with the setting on, a read where nothing is there hands it back.
-#[unsafe(no_mangle)]
-pub extern "C" fn vrc6_cpu_read(
+pub fn vrc6_cpu_read(
     board: &mut Board,
     fixed: &[u8],
     changing: &[u8],
@@ -121,8 +114,7 @@ pub extern "C" fn vrc6_cpu_read(
     cpu_peek(layout, page, open_bus, fixed, changing, addr, bus)
 }
 
-#[unsafe(no_mangle)]
-pub extern "C" fn vrc6_picture_read(
+pub fn vrc6_picture_read(
     board: &mut Board,
     fixed: &[u8],
     changing: &[u8],
@@ -138,8 +130,7 @@ pub extern "C" fn vrc6_picture_read(
 }
 
 // The byte, then the register. The answer is the refusal's number.
-#[unsafe(no_mangle)]
-pub extern "C" fn vrc6_cpu_write(
+pub fn vrc6_cpu_write(
     board: &mut Board,
     fixed: &[u8],
     changing: &mut [u8],
@@ -221,8 +212,7 @@ fn clock_steady(board: &mut Board, steady: Steady) -> Tick
 }
 
 // Any clock but that of a steady sound is out of line, so that this one has few registers to save.
-#[unsafe(no_mangle)]
-pub extern "C" fn vrc6_clock(board: &mut Board) -> Tick
+pub fn vrc6_clock(board: &mut Board) -> Tick
     ensures { (board.new ≡ (clock board.old).board) × (result ≡ tick_answer (clock board.old)) }
 {
     let irq = board.irq;
@@ -237,8 +227,7 @@ pub extern "C" fn vrc6_clock(board: &mut Board) -> Tick
 }
 
 // The same clock without the quick way, answering by one number: 1 for a tick, 6 for a refusal by 3, otherwise 0.
-#[unsafe(no_mangle)]
-pub extern "C" fn vrc6_clock_number(board: &mut Board) -> u8
+pub fn vrc6_clock_number(board: &mut Board) -> u8
     ensures { (board.new ≡ (clock board.old).board) × (result ≡ (clock_numbered board.old).number) }
 {
     let b = *board;
