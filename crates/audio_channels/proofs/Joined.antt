@@ -12,8 +12,6 @@ use Rattle.audio_saw.specs.declared.Saw.{Saw}
 use Rattle.audio_shared.specs.Ranges.{is_shift}
 use Rattle.audio_channels.specs.Ranges.{pulse_in_range, saw_in_range, channels_in_range}
 use Rattle.audio_shared.specs.Required.{ChannelIn}
-use Rattle.audio_pulse.specs.Required.{PulseIn}
-use Rattle.audio_saw.specs.Required.{SawIn}
 use Rattle.audio_channels.proofs.Ranged.{three, pulse_in, pulse_tested, saw_in, saw_tested}
 
 -- ---- tests that are joined one after another

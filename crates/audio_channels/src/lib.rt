@@ -1,5 +1,6 @@
 // The channels of the sound together: the test of their ranges.
 #![tactic(auto)]
+
 ghost use Rattle.std.specs.Prelude.{◌≡◌};
 ghost use Rattle.audio_channels.specs.Ranges.{channels_in_range};
 

@@ -1,5 +1,6 @@
 // A pulse channel ($9000..2 and $A000..2): its registers, clock and level (`Pulse` of the Rust).
 #![tactic(auto)]
+
 ghost use Rattle.std.specs.Prelude.{◌≡◌};
 ghost use Rattle.base_floats.specs.Wholes.{float};
 ghost use Rattle.audio_pulse.specs.Pulses.{pulse_at, pulse_written, pulse_shifted, pulse_clocked, pulse_level};

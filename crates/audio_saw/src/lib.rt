@@ -1,5 +1,6 @@
 // The saw channel ($B000..2): its registers, clock and level (`Saw` of the Rust).
 #![tactic(auto)]
+
 ghost use Rattle.std.specs.Prelude.{◌≡◌};
 ghost use Rattle.base_floats.specs.Wholes.{float};
 ghost use Rattle.audio_saw.specs.Saws.{saw_at, saw_written, saw_shifted, saw_clocked, saw_level, accumulated};

@@ -1,6 +1,6 @@
 -- The sums are the f32s of 0..61; each is below 62, and no NaN. Assumes nothing.
-use Prim.Native.Nat.{ℕ, ◌*◌, ◌/◌, ◌^◌, ◌≤◌, ◌<◌}
-use native.Mathlib.Nat.{mul-lt-mul_of_pos_right, div-lt_iff_lt-mul}
+use Prim.Native.Nat.{ℕ, ◌*◌, ◌^◌, ◌≤◌, ◌<◌}
+use native.Mathlib.Nat.{mul-lt-mul_of_pos_right}
 use native.Mathlib.Omega.{arith}
 use mathlib.Core.Path.{◌≡◌, refl, sym, ap, ◌∙◌, subst}
 use mathlib.Core.Bool.{Bool, true, false, not, true≢false, false≢true}
@@ -11,7 +11,7 @@ use lib.Ieee.Fits.{down_pos, and_i, and_l, and_r}
 use lib.Ieee.Exact.{HasValue}
 use lib.Ieee.Back.{unsigned_back, Float-back_unsigned}
 use lib.Ieee.Bits.{of_bits-to_bits}
-use borrow.Author.Tests.{lt-ltb, ltb-true}
+use borrow.Author.Tests.{lt-ltb}
 use Rattle.base_floats.specs.Wholes.{float, is_sum}
 use Rattle.base_floats.specs.Laws.{IsSumLaw, NoSums}
 use Rattle.base_floats.proofs.Exact.{has}

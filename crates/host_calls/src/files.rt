@@ -6,16 +6,14 @@ ghost use Rattle.host_cartridge.specs.Filled.{changing_filled, fill_refusal, fix
 
 use host_cartridge::{EncodedCartridge, encode_header, fill_from_file};
 
-#[unsafe(no_mangle)]
-pub extern "C" fn vrc6_read_header(file: &[u8]) -> EncodedCartridge
+pub fn vrc6_read_header(file: &[u8]) -> EncodedCartridge
     ensures { result ≡ header_encoded (read_header file.now) }
 {
     encode_header(file)
 }
 
 // The answer is the refusal's number. Refused, both buffers stay as they were.
-#[unsafe(no_mangle)]
-pub extern "C" fn vrc6_fill(file: &[u8], fixed: &mut [u8], changing: &mut [u8]) -> u8
+pub fn vrc6_fill(file: &[u8], fixed: &mut [u8], changing: &mut [u8]) -> u8
     ensures value { result ≡ fill_refusal file.now (length fixed.old) (length changing.old) }
     ensures fixed_after { fixed.new ≡ fixed_filled file.now fixed.old changing.old }
     ensures changing_after { changing.new ≡ changing_filled file.now fixed.old changing.old }

@@ -3,6 +3,7 @@
 // Every call is total and refuses by number. Refused, it leaves board and buffers as they were; only create leaves the
 // zero board. Board and buffers cross as references, an answer as a number or a small struct.
 #![tactic(auto)]
+
 pub mod files;
 
 ghost use Rattle.std.specs.Prelude.{◌≡◌};
@@ -26,8 +27,7 @@ use vrc6_parts::reads::{cpu_peek, picture_peek};
 use vrc6_parts::writes::{reached, write_byte};
 
 // Creation by numbers, since no enum crosses. A refused create leaves the zero board. The answer is the refusal's number.
-#[unsafe(no_mangle)]
-pub extern "C" fn vrc6_create(
+pub fn vrc6_create(
     board: &mut Board,
     layout: MemoryLayout,
     settings: NumberedSettings,
@@ -43,8 +43,7 @@ pub extern "C" fn vrc6_create(
 }
 
 // Soft and hard act alike, so there is one. The answer is the refusal's number.
-#[unsafe(no_mangle)]
-pub extern "C" fn vrc6_reset(board: &mut Board) -> u8
+pub fn vrc6_reset(board: &mut Board) -> u8
     ensures { (board.new ≡ (reset board.old).board) × (result ≡ (reset board.old).refusal) }
 {
     let b = *board;
@@ -53,16 +52,14 @@ pub extern "C" fn vrc6_reset(board: &mut Board) -> u8
     after.refusal
 }
 
-#[unsafe(no_mangle)]
-pub extern "C" fn vrc6_level(board: &mut Board) -> EncodedLevel
+pub fn vrc6_level(board: &mut Board) -> EncodedLevel
     ensures { (board.new ≡ board.old) × (result ≡ level_encoded (level board.old).level) }
 {
     let b = *board;
     encode_level(b)
 }
 
-#[unsafe(no_mangle)]
-pub extern "C" fn vrc6_forecast(board: &mut Board) -> EncodedForecast
+pub fn vrc6_forecast(board: &mut Board) -> EncodedForecast
     ensures { (board.new ≡ board.old) × (result ≡ forecast_encoded (forecast board.old).forecast) }
 {
     let b = *board;
@@ -70,8 +67,7 @@ pub extern "C" fn vrc6_forecast(board: &mut Board) -> EncodedForecast
 }
 
 // A byte, and no register. The answer is the refusal's number.
-#[unsafe(no_mangle)]
-pub extern "C" fn vrc6_picture_write(
+pub fn vrc6_picture_write(
     board: &mut Board,
     fixed: &[u8],
     changing: &mut [u8],
@@ -88,13 +84,7 @@ pub extern "C" fn vrc6_picture_write(
 }
 
 // Where the page of a picture address lies, for a host that keeps both buffers.
-#[unsafe(no_mangle)]
-pub extern "C" fn vrc6_page_view(
-    board: &mut Board,
-    fixed: &[u8],
-    changing: &[u8],
-    addr: u16,
-) -> PageAt
+pub fn vrc6_page_view(board: &mut Board, fixed: &[u8], changing: &[u8], addr: u16) -> PageAt
     ensures { (board.new ≡ board.old)
         × (result ≡ page_at (held_by board.old fixed.now changing.now) addr) }
 {
@@ -103,14 +93,7 @@ pub extern "C" fn vrc6_page_view(
 }
 
 // bus is the byte that the bus last held: with the setting on, a read where nothing is there hands it back.
-#[unsafe(no_mangle)]
-pub extern "C" fn vrc6_cpu_read(
-    board: &mut Board,
-    fixed: &[u8],
-    changing: &[u8],
-    addr: u16,
-    bus: u8,
-) -> Peeked
+pub fn vrc6_cpu_read(board: &mut Board, fixed: &[u8], changing: &[u8], addr: u16, bus: u8) -> Peeked
     ensures { (board.new ≡ board.old)
         × (result ≡ byte_answer (byte_read (by_cpu bus) (held_by board.old fixed.now changing.now) addr)) }
 {
@@ -121,13 +104,7 @@ pub extern "C" fn vrc6_cpu_read(
     cpu_peek(layout, page, open_bus, fixed, changing, addr, bus)
 }
 
-#[unsafe(no_mangle)]
-pub extern "C" fn vrc6_picture_read(
-    board: &mut Board,
-    fixed: &[u8],
-    changing: &[u8],
-    addr: u16,
-) -> Peeked
+pub fn vrc6_picture_read(board: &mut Board, fixed: &[u8], changing: &[u8], addr: u16) -> Peeked
     ensures { (board.new ≡ board.old)
         × (result ≡ byte_answer (byte_read by_picture (held_by board.old fixed.now changing.now) addr)) }
 {
@@ -138,8 +115,7 @@ pub extern "C" fn vrc6_picture_read(
 }
 
 // The byte, then the register. The answer is the refusal's number.
-#[unsafe(no_mangle)]
-pub extern "C" fn vrc6_cpu_write(
+pub fn vrc6_cpu_write(
     board: &mut Board,
     fixed: &[u8],
     changing: &mut [u8],
@@ -221,8 +197,7 @@ fn clock_steady(board: &mut Board, steady: Steady) -> Tick
 }
 
 // Any clock but that of a steady sound is out of line, so that this one has few registers to save.
-#[unsafe(no_mangle)]
-pub extern "C" fn vrc6_clock(board: &mut Board) -> Tick
+pub fn vrc6_clock(board: &mut Board) -> Tick
     ensures { (board.new ≡ (clock board.old).board) × (result ≡ tick_answer (clock board.old)) }
 {
     let irq = board.irq;
@@ -237,8 +212,7 @@ pub extern "C" fn vrc6_clock(board: &mut Board) -> Tick
 }
 
 // The same clock without the quick way, answering by one number: 1 for a tick, 6 for a refusal by 3, otherwise 0.
-#[unsafe(no_mangle)]
-pub extern "C" fn vrc6_clock_number(board: &mut Board) -> u8
+pub fn vrc6_clock_number(board: &mut Board) -> u8
     ensures { (board.new ≡ (clock board.old).board) × (result ≡ (clock_numbered board.old).number) }
 {
     let b = *board;

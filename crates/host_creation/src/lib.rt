@@ -1,5 +1,6 @@
 // Creation by numbers, in place of enums, which do not cross to C.
 #![tactic(auto)]
+
 ghost use Rattle.std.specs.Prelude.{◌≡◌};
 ghost use Rattle.host_creation.specs.Numbers.{created_by, mirroring_numbered, numbered, revision_numbered, settings_named, settings_numbered};
 

@@ -1,5 +1,6 @@
 // The interrupt counter of the VRC chips, which ticks at each clock or once a line (VRC IRQ; vrc_irq.rs).
 #![tactic(auto)]
+
 ghost use Rattle.std.specs.Prelude.{◌≡◌};
 ghost use Rattle.registers.specs.Decode.{decode};
 ghost use Rattle.irq.specs.Interrupt.{irq_tick, irq_reload, irq_acknowledged, irq_zero};

@@ -6,7 +6,7 @@ use native.Mathlib.Omega.{arith}
 use borrow.Author.Tests.{eqb-true, eq-eqb, ne_eqb}
 use Rattle.memory_pages.specs.declared.page.Page.{Page}
 use Rattle.memory_pages.specs.declared.page.Lookup.TheVariants.{Unmapped, Mapped}
-use Rattle.memory_pages.specs.Pages.{entry, is_unmapped, offset, writable, spare, pages_on, serving, found}
+use Rattle.memory_pages.specs.Pages.{entry, is_unmapped, offset, writable, spare, pages_on, serving}
 use Rattle.memory_pages.specs.Laws.{BitsLaw, EntryLaw, LookupLaw, PagesOnLaw}
 
 pub offset_of : (at : ℕ) (w : Bool) → at < 2 ^ 30 → offset (entry at w) ≡ at

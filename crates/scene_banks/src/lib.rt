@@ -1,5 +1,6 @@
 // Which bank a slot of the picture side shows.
 #![tactic(auto)]
+
 ghost use Rattle.std.specs.Prelude.{◌≡◌};
 ghost use Rattle.scene_banks.specs.Shown.{bank_at, bank_shown};
 

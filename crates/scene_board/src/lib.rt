@@ -1,5 +1,6 @@
 // The steps of a sheet, played on a board.
 #![tactic(auto)]
+
 pub mod ended;
 pub mod inside;
 

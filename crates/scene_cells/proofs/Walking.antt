@@ -2,7 +2,7 @@
 use mathlib.Core.Path.{◌≡◌, refl, sym, ap, subst, ◌∙◌}
 use mathlib.Core.Bool.{Bool, true, false, cond, false≢true}
 use mathlib.Core.List.{List, []}
-use Prim.Native.Nat.{ℕ, zero, suc, ◌+◌, ◌-◌, ◌≤◌, ◌<◌}
+use Prim.Native.Nat.{ℕ, suc, ◌+◌, ◌-◌, ◌≤◌, ◌<◌}
 use native.Mathlib.Omega.{arith}
 use native.Mathlib.Nat.{add-zero, zero-add}
 use lib.Dec.{leb}
@@ -14,7 +14,7 @@ use Rattle.scene_cells.specs.declared.lookup.Found.{Found}
 use Rattle.scene_cells.specs.declared.lookup.Found.TheVariants.{At, Missing}
 use Rattle.scene_cells.specs.Cells.{Content, cell_of, plain_cell}
 use Rattle.scene_cells.specs.Columns.{column_of}
-use Rattle.scene_cells.specs.Places.{CellAt, content_in}
+use Rattle.scene_cells.specs.Places.{CellAt}
 use Rattle.scene_cells.specs.Rows.{CellUnder, FoundIn, HeldIn, InRow, NameAt, cell_there, no_cell, nth_cell}
 
 -- a cell that was read holds what stands there

@@ -1,6 +1,7 @@
 // The cells of a row, as spreadsheets export them (RFC 4180): a separator between them, and behind the last a line feed, a
 // carriage return or both. A cell in quotes may hold separators and line ends, and a doubled quote for each quote.
 #![tactic(auto)]
+
 pub mod choices;
 pub mod columns;
 pub mod lookup;

@@ -1,12 +1,11 @@
 -- Clocks change no page entry: the ledger's registers do not take them. Assumes nothing.
 use mathlib.Core.Path.{◌≡◌, refl, sym, ap, ap₂, ◌∙◌}
-use mathlib.Core.Bool.{Bool, true, false, cond, false≢true}
+use mathlib.Core.Bool.{true, false≢true}
 use mathlib.Core.List.{List, [], ◌∷◌}
 use Rattle.base_shared.proofs.Tests.{tested}
 use Rattle.registers.specs.Decode.{decode}
 use Rattle.vrc6_banking.specs.Banking.{is_b}
 use Rattle.vrc6_banking.specs.declared.banking.Settings.{Settings}
-use Rattle.vrc6_banking.specs.declared.banking.Banking.{Banking}
 use Rattle.vrc6_tables.specs.Tables.{table_of}
 use Rattle.vrc6_calls.specs.declared.Call.{Call}
 use Rattle.vrc6.specs.Boards.{Creation}

@@ -30,7 +30,7 @@ use Rattle.scene_steps.specs.declared.step.Step.TheVariants.{Write, Clocks, Rese
 use Rattle.scene_steps.specs.Steps.{step_coded}
 use Rattle.scene_board.specs.Played.{calls_of, step_calls}
 use Rattle.scene_moments.specs.declared.moment.Came.{Came}
-use Rattle.scene_moments.specs.declared.moment.Came.TheVariants.{Never, On, Held, Lost}
+use Rattle.scene_moments.specs.declared.moment.Came.TheVariants.{Held, Lost}
 use Rattle.scene_moments.specs.declared.moment.Moment.{Moment}
 use Rattle.scene_moments.specs.Moments.{added, came, clears, clocks_due, coming_in, due_within, ended, lost_at, menu_played, moment, pending_at, step_pending, step_taken, waited}
 use Rattle.scene_laws.specs.Counter.{counter_after}

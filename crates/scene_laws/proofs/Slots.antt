@@ -1,7 +1,7 @@
 -- The bank that a slot's entry is told as. Assumes nothing.
-use mathlib.Core.Path.{◌≡◌, sym, ap, ◌∙◌}
+use mathlib.Core.Path.{◌≡◌, ap, ◌∙◌}
 use mathlib.Core.Bool.{Bool, cond}
-use Prim.Native.Nat.{ℕ, ◌+◌, ◌-◌, ◌*◌, ◌/◌, ◌%◌, ◌^◌, ◌≤◌, ◌<◌}
+use Prim.Native.Nat.{ℕ, ◌+◌, ◌-◌, ◌*◌, ◌%◌, ◌≤◌, ◌<◌}
 use native.Mathlib.Omega.{arith}
 use native.Mathlib.Nat.{mod-lt, mod-eq_of_lt}
 use lib.IntN.{pos}
@@ -16,7 +16,7 @@ use Rattle.memory_layout.proofs.Limited.{limits}
 use Rattle.memory_rule.specs.Rule.{base, bank_count}
 use Rattle.memory_rule.proofs.Shown.{ends}
 use Rattle.vrc6_tables.specs.Tables.{one_page}
-use Rattle.scene_banks.specs.Shown.{bank_at, bank_shown, no_bank}
+use Rattle.scene_banks.specs.Shown.{bank_at, no_bank}
 use Rattle.scene_laws.specs.Banks.{BankLaw}
 
 -- an offset so many banks behind the start of CHR

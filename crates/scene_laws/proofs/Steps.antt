@@ -1,9 +1,9 @@
 -- The step of a handler in which the interrupt comes. Assumes nothing.
 use mathlib.Core.Path.{◌≡◌, refl, sym, ap, subst, ◌∙◌}
-use mathlib.Core.Bool.{Bool, true, false, cond, not, ◌&&◌}
+use mathlib.Core.Bool.{Bool, true, false, cond, not}
 use mathlib.Core.List.{List, [], ◌∷◌, ◌++◌, append-nil}
 use mathlib.Core.Option.{Option, none, some}
-use Prim.Native.Nat.{ℕ, zero, suc, ◌+◌, ◌-◌, ◌^◌, ◌≤◌, ◌<◌}
+use Prim.Native.Nat.{ℕ, zero, suc, ◌+◌, ◌^◌, ◌≤◌, ◌<◌}
 use native.Mathlib.Omega.{arith}
 use lib.Dec.{eqb, leb}
 use lib.ListN.{length, take, replicate}
@@ -26,7 +26,7 @@ use Rattle.scene_board.specs.Played.{calls_of, step_calls}
 use Rattle.scene_moments.specs.declared.moment.Came.{Came}
 use Rattle.scene_moments.specs.declared.moment.Came.TheVariants.{Never, On, Held, Lost}
 use Rattle.scene_moments.specs.declared.moment.Moment.{Moment}
-use Rattle.scene_moments.specs.Moments.{added, came, came_in, clears, clocks_due, due_within, ended, lost_at, menu_played, moment, pending_at, step_pending, step_taken, waited}
+use Rattle.scene_moments.specs.Moments.{added, came, came_in, clears, clocks_due, due_within, ended, lost_at, menu_played, moment, pending_at, step_pending, step_taken}
 use Rattle.scene_moments.specs.Verdicts.{set_of}
 use Rattle.vrc6_calls.specs.Lists.{after}
 use Rattle.scene_laws.specs.Rises.{RiseFound, Waits, calls_around, came_at, rises_at}

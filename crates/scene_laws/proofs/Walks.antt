@@ -23,7 +23,7 @@ use Rattle.scene_steps.specs.declared.step.Step.TheVariants.{Write, Clocks, Rese
 use Rattle.scene_steps.specs.Steps.{step_coded, step_from}
 use Rattle.scene_moments.specs.declared.moment.Moment.{Moment}
 use Rattle.scene_moments.specs.declared.moment.Came.{Came}
-use Rattle.scene_moments.specs.declared.moment.Came.TheVariants.{Never, On, Held, Lost}
+use Rattle.scene_moments.specs.declared.moment.Came.TheVariants.{Never, On}
 use Rattle.scene_board.specs.Played.{calls_of, step_calls}
 use Rattle.scene_laws.specs.Counter.{counter_after}
 use Rattle.scene_moments.specs.Moments.{added, came, clears, coming_in, clocks_due, due_within, ended, lost_at, menu_played, moment, pending_at, step_pending, step_taken, waited}

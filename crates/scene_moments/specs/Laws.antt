@@ -1,9 +1,8 @@
 -- What a margin is, and examples of what the definitions give. `proofs/` proves it. Assumes nothing.
-use Rattle.std.specs.Prelude.{◌≡◌, ℕ, ◌+◌, ◌-◌, ◌<◌, ◌≤◌, true, false, List, [], ◌∷◌}
+use Rattle.std.specs.Prelude.{◌≡◌, ℕ, ◌+◌, ◌-◌, ◌<◌, ◌≤◌, true, false, [], ◌∷◌}
 use Rattle.irq.specs.declared.VrcIrq.{VrcIrq}
 use Rattle.scene_moments.specs.declared.lines.Screen.{Screen}
-use Rattle.scene_moments.specs.declared.moment.Came.{Came}
-use Rattle.scene_moments.specs.declared.moment.Came.TheVariants.{Never, On, Held, Lost}
+use Rattle.scene_moments.specs.declared.moment.Came.TheVariants.{On, Held, Lost}
 use Rattle.scene_moments.specs.Lines.{early_margin, late_margin, line_of}
 use Rattle.scene_moments.specs.Moments.{came, moment}
 use Rattle.scene_moments.specs.Verdicts.{verdict_of}

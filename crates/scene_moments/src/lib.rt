@@ -1,5 +1,6 @@
 // When the interrupt comes if the menu's handler runs at some moment, on which line that is, and what it means for the window.
 #![tactic(auto)]
+
 pub mod lines;
 pub mod moment;
 pub mod verdict;

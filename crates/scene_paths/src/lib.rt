@@ -1,5 +1,6 @@
 // The path of a file that a cell names.
 #![tactic(auto)]
+
 ghost use Rattle.std.specs.Prelude.{◌≡◌};
 ghost use Rattle.text_words.specs.Places.{WordAt};
 ghost use Rattle.scene_paths.specs.Names.{EndOf, is_ink, is_slash, trimmed};

@@ -1,6 +1,4 @@
 -- What a word says is within its limits. Assumes nothing.
-use mathlib.Core.Path.{◌≡◌}
-use mathlib.Core.Bool.{cond}
 use mathlib.Core.List.{List, [], ◌∷◌}
 use Prim.Native.Nat.{ℕ, ◌≤◌}
 use native.Mathlib.Omega.{arith}
@@ -12,8 +10,7 @@ use Rattle.text_words.specs.declared.number.Number.{Number}
 use Rattle.text_words.specs.declared.number.Number.TheVariants.{Value, NoNumber, TooLarge}
 use Rattle.text_words.specs.Numbers.{are_digits, limited, number_of, value_of}
 use Rattle.scene_cells.specs.Marks.{from_mark, before_mark, behind_mark}
-use Rattle.scene_steps.specs.declared.step.Step.{Step}
-use Rattle.scene_steps.specs.declared.step.Step.TheVariants.{Write, Clocks, Reset, Wrong}
+use Rattle.scene_steps.specs.declared.step.Step.TheVariants.{Wrong}
 use Rattle.scene_steps.specs.Laws.{Said, SaidLaw}
 use Rattle.scene_steps.specs.Steps.{byte_from, clocks_from, hex_of, is_reset, step_of, write_from}
 

@@ -3,7 +3,7 @@ use Rattle.std.proofs.Common.{◌≡◌, ℕ, ◌+◌, ◌-◌, ◌<◌, ◌≤�
 use lib.ListN.{get_or-replicate}
 use borrow.Author.Tests.{eqb-false}
 use Rattle.base_shared.proofs.Tests.{tested}
-use Rattle.scene_sweep.specs.Bars.{Barred, MarkedOn, Shows, Touches, Unmarked, first_column, last_column}
+use Rattle.scene_sweep.specs.Bars.{MarkedOn, Shows, Touches, Unmarked, first_column, last_column}
 use Rattle.scene_sweep.proofs.Columns.{Among, found, spread}
 
 -- 64 columns of 0 are the bar of no clock

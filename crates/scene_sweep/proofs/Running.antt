@@ -1,5 +1,5 @@
 -- A run of clocks with one verdict, one clock after the other. Assumes nothing.
-use Rattle.std.proofs.Common.{◌≡◌, ℕ, suc, ◌+◌, ◌-◌, ◌<◌, ◌≤◌, Bool, true, false, cond, not, ◌&&◌, eqb, ltb, leb, List, sym, refl, ap, ◌∙◌, subst, inl, inr, arith, eq-eqb, eqb-true, leb-false, leb-true}
+use Rattle.std.proofs.Common.{◌≡◌, ℕ, suc, ◌+◌, ◌-◌, ◌<◌, ◌≤◌, Bool, true, false, eqb, ltb, leb, List, sym, refl, ap, ◌∙◌, subst, inl, inr, arith, eq-eqb, eqb-true, leb-false, leb-true}
 use mathlib.Core.Bool.{false≢true}
 use Rattle.base_shared.proofs.Tests.{and_left, and_right, both, either, tested}
 use Rattle.base_steps.specs.Times.{times}
@@ -22,15 +22,6 @@ use Rattle.scene_sweep.specs.declared.spans.Span.{Span}
 use Rattle.scene_sweep.specs.Spans.{SpanOf, span_of, span_with}
 use Rattle.scene_sweep.proofs.Spanning.{one_spanned, more_spanned}
 use Rattle.scene_sweep.specs.Runs.{RunOf, same_verdict, seen_at, seen_from, seen_in}
-
--- a test that is asked the other way round
-pub other_true : (b : Bool) → not b ≡ true → b ≡ false
-other_true false e = refl
-other_true true e = absurd (false≢true e)
-
-pub other_false : (b : Bool) → not b ≡ false → b ≡ true
-other_false true e = refl
-other_false false e = absurd (false≢true (sym e))
 
 -- ---- verdicts of one sweep with the same line and the same mark are the same
 line_told : (l window : ℕ) → (on_line l window).line ≡ l

@@ -7,7 +7,6 @@ use Rattle.irq_clocks.specs.Clocks.{irq_clocked_times}
 use Rattle.scene_sweep.specs.declared.runs.Run.{Run}
 use Rattle.scene_sweep.specs.declared.runs.Sweep.{Sweep}
 use Rattle.scene_sweep.specs.declared.tally.Tally.{Tally}
-use Rattle.scene_moments.specs.declared.verdict.Seen.{Seen}
 use Rattle.scene_moments.specs.declared.verdict.Verdict.{Verdict}
 use Rattle.scene_sweep.specs.Bars.{MarkedOn, Unmarked}
 use Rattle.scene_sweep.specs.Runs.{RunOf, seen_in}

@@ -1,13 +1,12 @@
 -- A run of one verdict is added to a tally. Assumes nothing.
-use Rattle.std.proofs.Common.{◌≡◌, ℕ, zero, suc, ◌+◌, ◌-◌, ◌%◌, ◌^◌, ◌<◌, ◌≤◌, Bool, true, false, cond, not, leb, sym, refl, ap, ◌∙◌, subst, ap₂, mod-eq_of_lt, arith, leb-false, leb-true}
+use Rattle.std.proofs.Common.{◌≡◌, ℕ, zero, suc, ◌+◌, ◌-◌, ◌%◌, ◌^◌, ◌<◌, ◌≤◌, Bool, true, false, cond, leb, sym, ap, ◌∙◌, ap₂, mod-eq_of_lt, arith, leb-false, leb-true}
 use mathlib.Core.Bool.{false≢true}
 use Rattle.base_shared.proofs.Tests.{either, tested}
 use Rattle.scene_sweep.specs.declared.runs.Run.{Run}
 use Rattle.scene_sweep.specs.declared.tally.Tally.{Tally}
 use Rattle.scene_sweep.specs.declared.tally.Wrong.{Wrong}
 use Rattle.scene_moments.specs.declared.verdict.Seen.{Seen}
-use Rattle.scene_moments.specs.declared.verdict.Verdict.{Verdict}
-use Rattle.scene_sweep.specs.Tallies.{FirstWrong, Tallied, WorstWrong, WrongAt, badness, is_wrong, wrong_before}
+use Rattle.scene_sweep.specs.Tallies.{FirstWrong, Tallied, WrongAt, badness, is_wrong, wrong_before}
 
 module _ (at : ℕ → Seen) where
   -- m clocks that are all wrong, or all right

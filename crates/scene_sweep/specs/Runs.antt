@@ -1,5 +1,5 @@
 -- Runs of clocks at which the menu has one verdict (docs/SCENES.md). Assumes nothing.
-use Rattle.std.specs.Prelude.{◌≡◌, ℕ, ◌-◌, ◌<◌, ◌≤◌, Bool, true, false, ◌&&◌, ◌⊎◌, List, ◌==◌, ◌≢◌}
+use Rattle.std.specs.Prelude.{◌≡◌, ℕ, ◌-◌, ◌<◌, ◌≤◌, Bool, ◌&&◌, ◌⊎◌, List, ◌==◌, ◌≢◌}
 use Rattle.irq.specs.declared.VrcIrq.{VrcIrq}
 use Rattle.irq.specs.Timing.{line_step, line_length}
 use Rattle.irq_clocks.specs.Clocks.{irq_clocked_times}

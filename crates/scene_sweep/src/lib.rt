@@ -1,5 +1,6 @@
 // The menu at every clock: runs of clocks with one verdict, the moments that are wrong, and the bar.
 #![tactic(auto)]
+
 pub mod bar;
 pub mod letters;
 pub mod runs;

@@ -5,6 +5,7 @@
 // of the conditions 1, 2, 3 and 4. Refused, it gives the board back as it was, and leaves both buffers alone; only create
 // gives the zero board.
 #![tactic(auto)]
+
 pub mod board;
 pub mod clocks;
 pub mod create;

@@ -1,6 +1,7 @@
 // The calls of the board as values, and one function that plays them: what replaying a script, and every claim about lists
 // of calls, goes by.
 #![tactic(auto)]
+
 ghost use Rattle.std.specs.Prelude.{◌≡◌};
 ghost use Rattle.vrc6.specs.Boards.{held_by};
 ghost use Rattle.vrc6_calls.specs.Lists.{changing_after, step};

@@ -1,5 +1,5 @@
 -- Why a clock that passes the tests of `steady_timers` moves of the sound the timers only. Assumes nothing.
-use Rattle.std.proofs.Common.{◌≡◌, ℕ, ◌-◌, ◌≤◌, Bool, true, false, cond, ◌&&◌, ◌||◌, eqb, sym, refl, ◌∙◌, true≢false, arith}
+use Rattle.std.proofs.Common.{◌≡◌, ℕ, ◌-◌, ◌≤◌, Bool, true, false, cond, ◌&&◌, ◌||◌, eqb, sym, refl, ◌∙◌, true≢false}
 use lib.Ieee.{Float}
 use borrow.Author.Tests.{eqb-false}
 use Rattle.base_shared.proofs.Tests.{and_left, and_right, both}
@@ -9,7 +9,7 @@ use Rattle.audio.specs.declared.Audio.{Audio}
 use Rattle.audio.specs.Sound.{summed}
 use Rattle.audio_channels.specs.Ranges.{pulse_in_range, saw_in_range, channels_in_range}
 use Rattle.audio_channels.proofs.Ranged.{three, pulse_in, saw_in}
-use Rattle.audio.proofs.Steady.{Falls, audio_falls, sum_in_range}
+use Rattle.audio.proofs.Steady.{audio_falls, sum_in_range}
 use Rattle.vrc6_engine.specs.Engine.{engine_clock, only_timers}
 use Rattle.vrc6_engine.proofs.Engines.{engine_steady}
 

@@ -1,5 +1,6 @@
 // Interrupt and sound without the board around them: what clock, reset, level and forecast do with both.
 #![tactic(auto)]
+
 ghost use Rattle.std.specs.Prelude.{◌≡◌};
 ghost use Rattle.vrc6_engine.specs.Engine.{engine_clock, engine_ok};
 

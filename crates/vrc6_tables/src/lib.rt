@@ -9,6 +9,7 @@
 //              $2000..$2FFF  four nametables of 1 KiB of CIRAM, or of CHR if bit 4 of the mode is set
 //              $3000..$3FFF  the same four again
 #![tactic(auto)]
+
 ghost use Rattle.std.specs.Prelude.{◌≡◌, ◌++◌, map};
 ghost use Rattle.base_shared.specs.Bits.{bit};
 ghost use Rattle.memory_layout.specs.Required.{Limits};

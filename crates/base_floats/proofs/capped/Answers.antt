@@ -9,4 +9,3 @@ returns-then-x c = simp c.if-x.true
 pub returns-else-x : goal.returns-else-x
 unfolding of_bits of_int round
 returns-else-x c = simp c.if-x.false
-

@@ -38,4 +38,3 @@ float_to_bits-result-2 c = has_bits _ _ c.capped-y.ensures
 pub returns : goal.returns
 unfolding of_bits
 returns c = by_guess _ c.capped-y.result _ (search rules) (search rules) c.capped-y.ensures (low _) refl
-

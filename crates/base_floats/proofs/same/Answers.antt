@@ -16,4 +16,3 @@ returns-then-x-y c = λ e. bits_same _ _ (search rules) (search rules) (eqb-true
 
 pub returns : goal.returns
 returns c = λ e. absurd (false≢true e)
-

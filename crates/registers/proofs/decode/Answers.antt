@@ -7,12 +7,6 @@ use Rattle.registers.specs.declared.AudioRegister.TheVariants.{Pulse1, Pulse2, O
 use Rattle.registers.specs.declared.IrqRegister.TheVariants.{Reload, Control, Acknowledge}
 use Rattle.registers.specs.Decode.{channel_register}
 use Rattle.registers.proofs.Table.{single, three, fourth, all_four, low, but}
-use borrow.Author.Rules.{rules}
-use Rattle.registers.proofs.decode.Reads as reads
-use Rattle.registers.proofs.decode.Lts as lts
-use Rattle.registers.proofs.channel_register.Reads as channel-register-reads
-use Rattle.registers.proofs.chr_register.Reads as chr-register-reads
-use Rattle.registers.proofs.lines.Reads as lines-reads
 use Rattle.registers.proofs.decode.Goals as goal
 
 -- src/lib.rt:71:17
@@ -94,4 +88,3 @@ returns-in_default c =
     r.0.0.0.0.0.1)
     r.0.0.0.0.0.0.1)
     r.0.0.0.0.0.0.0.1)
-

@@ -8,4 +8,3 @@ returns-then-self-eq0 c = (rw (eq-eqb _ _ c.if-self-eq0.true), omega arith)
 
 pub returns : goal.returns
 returns c = (rw (ne_eqb _ _ c.if-self-eq0.false), omega arith)
-

@@ -1,7 +1,6 @@
 -- `MemoryLayout::refusal` meets its contract. Assumes nothing.
 use Rattle.memory_layout.proofs.Limited.{limits}
 use mathlib.Core.Path.{sym, ◌∙◌}
-use borrow.Author.Rules.{rules}
 use Rattle.memory_layout.proofs.regions.MemoryLayout.refusal.Goals as goal
 
 pub lengths_fit-requires : goal.lengths_fit-requires
@@ -15,4 +14,3 @@ returns-then-within_limits c = rw (sym c.within_limits.ensures ∙ c.if-within_l
 
 pub returns : goal.returns
 returns c = rw (sym c.within_limits.ensures ∙ c.if-within_limits.false)
-

@@ -1,5 +1,4 @@
 -- `MemoryLayout::region` meets its contract. Assumes nothing.
-use borrow.Author.Rules.{rules}
 use Rattle.memory_layout.proofs.regions.MemoryLayout.region.Goals as goal
 
 pub returns-in-PrgRom : goal.returns-in-PrgRom
@@ -13,4 +12,3 @@ returns-in-Chr c = rw (c.chr_region.ensures, c.in-Chr.is)
 
 pub returns-in-CiRam : goal.returns-in-CiRam
 returns-in-CiRam c = rw (c.whole_pages-in-CiRam-2.ensures, c.ciram_bytes.ensures.0, c.changing_chr.ensures.0, c.whole_pages-in-CiRam.ensures, c.fixed_length-in-CiRam.ensures.0, c.in-CiRam.is)
-

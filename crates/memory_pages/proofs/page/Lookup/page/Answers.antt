@@ -1,7 +1,5 @@
 -- `Lookup::page` meets its contract. Assumes nothing.
-use borrow.Author.Rules.{rules}
 use Rattle.memory_pages.proofs.page.Lookup.page.Goals as goal
 
 pub returns-in-Unmapped : goal.returns-in-Unmapped
 returns-in-Unmapped c = rw c.in-Unmapped.is
-

@@ -1,6 +1,5 @@
 -- `Page::lookup` meets its contract. Assumes nothing.
 use mathlib.Core.Path.{sym, ◌∙◌}
-use borrow.Author.Rules.{rules}
 use Rattle.memory_pages.proofs.page.Page.lookup.Goals as goal
 
 pub returns-then-is_unmapped : goal.returns-then-is_unmapped
@@ -8,4 +7,3 @@ returns-then-is_unmapped c = rw (sym c.is_unmapped.ensures ∙ c.if-is_unmapped.
 
 pub returns : goal.returns
 returns c = rw (sym c.is_unmapped.ensures ∙ c.if-is_unmapped.false)
-

@@ -1,5 +1,4 @@
 -- `Page::new` meets its contract. Assumes nothing.
-use borrow.Author.Rules.{rules}
 use Rattle.memory_pages.proofs.page.Page.new.Goals as goal
 
 pub returns-then-writable : goal.returns-then-writable
@@ -7,4 +6,3 @@ returns-then-writable c = rw c.if-writable.true
 
 pub returns : goal.returns
 returns c = rw c.if-writable.false
-

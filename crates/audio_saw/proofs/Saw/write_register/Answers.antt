@@ -1,0 +1,19 @@
+-- `audio_saw::Saw::write_register` meets its contract. Assumes nothing.
+use Rattle.audio_saw.specs.Saws.{saw_written}
+use Rattle.audio_saw.proofs.Saw.write_register.Goals as goal
+
+pub returns-then-self : goal.returns-then-self
+unfolding saw_written
+returns-then-self c = simp (c.in-FrequencyHigh.is, c.high_bits.ensures, c.if-self.true)
+
+pub returns-in-Volume : goal.returns-in-Volume
+unfolding saw_written
+returns-in-Volume c = simp c.in-Volume.is
+
+pub returns-in-FrequencyLow : goal.returns-in-FrequencyLow
+unfolding saw_written
+returns-in-FrequencyLow c = simp (c.in-FrequencyLow.is, c.low_byte.ensures)
+
+pub returns-else-self : goal.returns-else-self
+unfolding saw_written
+returns-else-self c = simp (c.in-FrequencyHigh.is, c.high_bits.ensures, c.if-self.false)

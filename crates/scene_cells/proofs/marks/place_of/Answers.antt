@@ -1,0 +1,19 @@
+-- `place_of` meets its contract. Assumes nothing.
+use mathlib.Core.Path.{refl}
+use native.Mathlib.Omega.{arith}
+use borrow.Author.Rules.{rules}
+use borrow.Author.Tests.{eq-eqb, ne_eqb}
+use Rattle.scene_cells.proofs.Spans.{none, stops, goes_on, ends, takes, passes}
+use Rattle.scene_cells.proofs.marks.place_of.Goals as goal
+
+pub loop-i-init : goal.loop-i-init
+loop-i-init c = none _ _ _ (omega arith)
+
+pub returns-then-text-i : goal.returns-then-text-i
+returns-then-text-i c = stops _ _ _ _ c.loop-i.invariant (takes _ _ _ c.loop-i-test.true (eq-eqb _ _ c.if-text-i.true))
+
+pub loop-i-preserved : goal.loop-i-preserved
+loop-i-preserved c = goes_on _ _ _ _ c.loop-i.invariant 1 (search rules) (passes _ _ _ c.loop-i-test.true (ne_eqb _ _ c.if-text-i.false))
+
+pub returns : goal.returns
+returns c = ends _ _ _ _ c.loop-i.invariant refl c.loop-i-test.false

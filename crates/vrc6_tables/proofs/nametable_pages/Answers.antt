@@ -1,0 +1,21 @@
+-- `nametable_pages` meets its contract, entry by entry. Assumes nothing.
+use mathlib.Core.Path.{◌≡◌}
+use mathlib.Core.List.{◌∷◌, []}
+use lib.ListN.{length}
+use borrow.Author.Rules.{rules}
+use Rattle.vrc6_slots.proofs.Spelled.{spelled}
+use Rattle.vrc6_tables.proofs.nametable_pages.Goals as goal
+use Rattle.vrc6_tables.proofs.nametable_pages.Goals.{Start}
+
+all : (c : Start) → length c.args.numbers ≡ 4
+all c = search rules
+
+pub returns : goal.returns
+returns c =
+    rw (← spelled 0 4 c.args.numbers (all (goal.at.returns c).Start))
+    (λ i.
+    c.one_page.ensures i
+    ∷ c.one_page-2.ensures i
+    ∷ c.one_page-3.ensures i
+    ∷ c.one_page-4.ensures i
+    ∷ [])
