@@ -13,10 +13,7 @@ mod showing;
 
 use crate::buffers::{CHANGING, FIXED};
 use crate::run::run;
-use std::env::{Env, FillError};
-use std::fs::File;
-use std::io::Print;
-use text_output::Output;
+use libc::STDOUT_FILENO;
 use text_words::names::place_in;
 
 // What the arguments so far ask for.
@@ -27,13 +24,13 @@ struct Options {
 }
 
 // The buffers have the largest sizes that a layout can ask: a board uses their first bytes.
-fn play(rt: &HostRuntime, file: &mut File, name: &[u8], options: Options) {
+fn play(fd: i32, name: &[u8], options: Options) {
     let mut fixed = [0u8; FIXED];
     let mut changing = [0u8; CHANGING];
     let mut input = [0u8; 65536];
-    let mut out = Output::new(rt.stdout());
+    let mut out = [0u8; 65536];
     run(
-        file,
+        fd,
         name,
         &mut fixed,
         &mut changing,
@@ -44,27 +41,20 @@ fn play(rt: &HostRuntime, file: &mut File, name: &[u8], options: Options) {
     );
 }
 
-// A path is UTF-8 text.
-fn opened(rt: &HostRuntime, name: &[u8]) -> Option<File> {
-    File::open(rt, str::from_utf8(name).ok()?).ok()
-}
-
-fn play_file(rt: &HostRuntime, name: &[u8], options: Options) {
-    match opened(rt, name) {
-        Some(script) => {
-            let mut file = script;
-            play(rt, &mut file, name, options);
-        }
-        None => {
-            let _ = rt.stdout().write_all(b"no such file: ");
-            let _ = rt.stdout().write_all(name);
-            let _ = rt.stdout().write_all(b"\n");
-        }
+fn play_file(name: &[u8], options: Options) {
+    let fd = os::open_read(name);
+    if fd < 0 {
+        io::write_all(STDOUT_FILENO, b"no such file: ");
+        io::write_all(STDOUT_FILENO, name);
+        io::write_all(STDOUT_FILENO, b"\n");
+        return;
     }
+    play(fd, name, options);
+    libc::close(fd);
 }
 
 // An option, or the name of a script.
-fn take(rt: &HostRuntime, name: &[u8], options: Options) -> Options {
+fn take(name: &[u8], options: Options) -> Options {
     let place = place_in(b"--answers --full", name);
     if place < 2 {
         return Options {
@@ -72,37 +62,29 @@ fn take(rt: &HostRuntime, name: &[u8], options: Options) -> Options {
             full: place == 1,
         };
     }
-    play_file(rt, name, options);
+    play_file(name, options);
     options
 }
 
-// One that is longer than any path counts as empty.
-fn argument(rt: &HostRuntime, i: usize, options: Options) -> Options {
+fn argument(i: usize, options: Options) -> Options {
     let mut text = [0u8; 4096];
-    let all: &mut [u8] = &mut text;
-    match rt.arg(i, all) {
-        Ok(n) => take(rt, &all[0..n], options),
-        Err(_) => take(rt, b"", options),
+    let n = os::arg(i, &mut text);
+    let all: &[u8] = &text;
+    if n <= all.len() {
+        return take(&all[0..n], options);
     }
+    options
 }
 
-fn has_argument(rt: &HostRuntime, i: usize) -> bool {
-    let mut start = [0u8; 1];
-    match rt.arg(i, &mut start) {
-        Err(FillError::NotPresent) => false,
-        _ => true,
-    }
-}
-
-fn main(rt: HostRuntime) {
+fn main() {
     let mut options = Options {
         answers: false,
         full: false,
     };
-    for i in 1..usize::MAX {
-        if !has_argument(&rt, i) {
-            return;
-        }
-        options = argument(&rt, i, options);
+    let count = os::arg_count();
+    let mut i: usize = 1;
+    while i < count {
+        options = argument(i, options);
+        i += 1;
     }
 }
