@@ -1,5 +1,6 @@
 // What is printed of a verdict, and of a sweep.
 #![tactic(auto)]
+
 pub mod sweeping;
 
 use scene_moments::Verdict;
