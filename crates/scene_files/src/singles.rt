@@ -7,7 +7,7 @@ use scene_cells::columns::{INTERRUPTS, MIRRORING, REVISION, WINDOW};
 use text_words::next_word;
 use text_words::number::{Number, in_base};
 
-#[derive(Drop)]
+#[derive(Clone, Copy)]
 pub enum Single {
     Value(u32),
     // No number, or none of the words.

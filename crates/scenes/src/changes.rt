@@ -24,13 +24,7 @@ fn armed_by_other(scene: Scene, fixed: &[u8], writes: &[u32]) -> bool {
 }
 
 // Why the interrupt never comes.
-fn put_never(
-    scene: Scene,
-    fixed: &[u8],
-    writes: &[u32],
-    out: &mut Output,
-    len: usize,
-) -> usize {
+fn put_never(scene: Scene, fixed: &[u8], writes: &[u32], out: &mut Output, len: usize) -> usize {
     if !armed_by_other(scene, fixed, writes) {
         return put_text(
             out,

@@ -85,13 +85,7 @@ fn put_clock(out: &mut Output, len: usize, pending: bool, came: Came) -> usize {
     put_form(out, len, b", clock %d\n", &numbers)
 }
 
-fn put_window(
-    out: &mut Output,
-    len: usize,
-    window: u32,
-    irq: VrcIrq,
-    verdict: Verdict,
-) -> usize {
+fn put_window(out: &mut Output, len: usize, window: u32, irq: VrcIrq, verdict: Verdict) -> usize {
     let a = put_line(out, len, verdict, window != NO_WINDOW);
     put_clock(out, a, irq.irq_pending, came_alone(irq))
 }
@@ -224,13 +218,7 @@ fn put_kind(out: &mut Output, menu: Checked, kind: u8) -> Outcome {
 }
 
 // The letters, behind the menu if there is one.
-fn put_after(
-    out: &mut Output,
-    len: usize,
-    ended: Ended,
-    asked: [u32; 8],
-    menu: &[u32],
-) -> usize {
+fn put_after(out: &mut Output, len: usize, ended: Ended, asked: [u32; 8], menu: &[u32]) -> usize {
     let after_menu = ended.after_menu;
     if menu.len() == 0 {
         return len;

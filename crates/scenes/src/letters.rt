@@ -19,14 +19,7 @@ pub(crate) fn are_asked(asked: [u32; 8]) -> bool {
 }
 
 // A slot that shows another bank than the one that was asked, both in decimal and in hexadecimal.
-fn put_slot(
-    out: &mut Output,
-    len: usize,
-    when: usize,
-    slot: u32,
-    shown: u32,
-    asked: u32,
-) -> usize {
+fn put_slot(out: &mut Output, len: usize, when: usize, slot: u32, shown: u32, asked: u32) -> usize {
     let a = put_nth(
         out,
         len,

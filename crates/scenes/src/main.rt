@@ -1,6 +1,7 @@
 // Plays sheets of scenes: the files that its arguments name, or standard input. It checks each scene's letters and window,
 // and plays its menu at every clock up to the interrupt (docs/SCENES.md).
 #![tactic(auto)]
+
 mod changes;
 mod checking;
 mod faults;

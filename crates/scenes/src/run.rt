@@ -208,7 +208,17 @@ fn play_rows(
         let number = totals.next_row();
         let row = read_row(text, starts, out, totals.len, number);
         at = row.next;
-        let outcome = play_row(rt, row, header.cells, sheet, text, starts, fixed, out, number);
+        let outcome = play_row(
+            rt,
+            row,
+            header.cells,
+            sheet,
+            text,
+            starts,
+            fixed,
+            out,
+            number,
+        );
         totals = totals.add(outcome);
         told = tell(rt.stderr(), number, totals.moments, told);
     }

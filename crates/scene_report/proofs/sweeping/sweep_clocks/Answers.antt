@@ -10,7 +10,7 @@ pub run-run-requires : goal.run-run-requires
 run-run-requires c = c.loop-from-test.true
 
 pub add-tally-requires : goal.add-tally-requires
-add-tally-requires c = c.run-run.ensures.onward
+add-tally-requires c = omega (arith, c.run-run.ensures.onward)
 
 pub mark-requires : goal.mark-requires
 mark-requires c = (c.run-run.ensures.onward, c.run-run.ensures.within)
