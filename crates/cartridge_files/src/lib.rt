@@ -1,11 +1,11 @@
 // A file's bytes by its name.
 #![tactic(auto)]
 
-ghost use Rattle.std.specs.Prelude.{◌≤◌};
+ghost use Rattle.std.specs.Prelude.{◌≤◌, length};
 ghost use Rattle.cartridge_files.specs.Files.{bytes_read};
 
 use std::fs::{Files, open};
-use std::io::{Error, ErrorKind, Read};
+use std::io::{Eprint, Error, ErrorKind, Print, Read, Stderr};
 
 // The longest cartridge file that counts: header, trainer, and as much PRG and CHR as a board takes. A longer one is read so far,
 // which changes nothing that its header says.
@@ -28,13 +28,13 @@ fn was_read<F: Read>(file: &mut F, n: usize) -> Result<bool, Error> {
     Ok(file.read(&mut more)? == 0)
 }
 
-fn read_bytes<F: Read>(file: &mut F, bytes: &mut [u8; LONGEST]) -> usize
-    ensures { result ≤ 524816 }
+// Reads until the buffer is full, the file ends or a read fails, and says how many bytes stand at the buffer's start.
+pub fn read_full<F: Read>(file: &mut F, bytes: &mut [u8]) -> usize
+    ensures { result ≤ length bytes.new }
 {
-    let all: &mut [u8] = bytes;
     let mut done: usize = 0;
-    while done < all.len() {
-        let Ok(n) = file.read(&mut all[done..]) else {
+    while done < bytes.len() {
+        let Ok(n) = file.read(&mut bytes[done..]) else {
             break;
         };
         if n == 0 {
@@ -45,14 +45,32 @@ fn read_bytes<F: Read>(file: &mut F, bytes: &mut [u8; LONGEST]) -> usize
     done
 }
 
-// Fills the buffer from its start with the file's first bytes, and says how many they are. A path is UTF-8 text.
+fn read_bytes<F: Read>(file: &mut F, bytes: &mut [u8; LONGEST]) -> usize
+    ensures { result ≤ 524816 }
+{
+    let all: &mut [u8] = bytes;
+    read_full(file, all)
+}
+
+// A path is UTF-8 text.
+pub fn open_read<R: Files>(rt: &R, path: &[u8]) -> Result<R::File, Error> {
+    let Ok(text) = str::from_utf8(path) else {
+        return Err(Error::from(ErrorKind::InvalidFilename));
+    };
+    open(rt, text)
+}
+
+// Says why a file can't be read.
+pub fn fail(stderr: Stderr, name: &[u8], error: Error) {
+    let _ = stderr.write_all(name);
+    let _ = eprintln!(stderr; ": {error}");
+}
+
+// Fills the buffer from its start with the file's first bytes, and says how many they are.
 pub fn read_file(rt: &impl Files, path: &[u8], bytes: &mut [u8; LONGEST]) -> FileRead
     ensures { bytes_read result ≤ 524816 }
 {
-    let Ok(text) = str::from_utf8(path) else {
-        return FileRead::Failed(Error::from(ErrorKind::InvalidFilename));
-    };
-    let mut file = match open(rt, text) {
+    let mut file = match open_read(rt, path) {
         Ok(file) => file,
         Err(error) => return FileRead::Failed(error),
     };

@@ -1,5 +1,6 @@
 // The header of a cartridge file (iNES): its bytes, and the first condition that fails (tetanes-core's cart.rs).
 #![tactic(auto)]
+
 ghost use Rattle.std.specs.Prelude.{◌≡◌, ◌<◌};
 ghost use Rattle.base_shared.specs.Refusals.{first_failing};
 ghost use Rattle.cartridge_header.specs.Ines.{file_byte, header_checks, is_ines, is_newer, mapper_number, read_header, stated_by};

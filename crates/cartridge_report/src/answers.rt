@@ -5,7 +5,7 @@ ghost use Rattle.cartridge_report.specs.Numbers.{answer_numbers, cartridge_numbe
 
 use cartridge::Cartridge;
 use cartridge_header::HeaderRead;
-use text_output::ROOM;
+use text_output::Output;
 use text_output::forms::{put_form, put_nth};
 use vrc6_banking::banking::{is_b, mirroring_number};
 
@@ -39,7 +39,7 @@ pub fn answer_numbers(answer: HeaderRead) -> [u32; 10]
 }
 
 // The refusal's number, or the other nine, without a line end.
-pub fn put_numbers(out: &mut [u8; ROOM], len: usize, numbers: [u32; 10]) -> usize {
+pub fn put_numbers(out: &mut Output, len: usize, numbers: [u32; 10]) -> usize {
     let chr_kind = numbers[3] as usize;
     let mirroring = numbers[6] as usize;
     let revision = numbers[7] as usize;

@@ -1,17 +1,18 @@
 // What is printed of a cartridge, and of the number by which a file is refused.
 #![tactic(auto)]
+
 pub mod answers;
 mod letters;
 
 use crate::letters::{mirroring_letter, revision_letter};
 use cartridge::Cartridge;
 use memory_layout::MemoryLayout;
-use text_output::ROOM;
+use text_output::Output;
 use text_output::forms::{put_form, put_nth, put_nth_form};
 
 // Where PRG and CHR lie. CHR that is RAM takes no bytes of the file.
 fn put_parts(
-    out: &mut [u8; ROOM],
+    out: &mut Output,
     len: usize,
     layout: MemoryLayout,
     prg_start: u32,
@@ -29,7 +30,7 @@ fn put_parts(
 }
 
 // Six lines, each named as a sheet's column where there is one.
-pub fn put_cartridge(out: &mut [u8; ROOM], len: usize, cartridge: Cartridge) -> usize {
+pub fn put_cartridge(out: &mut Output, len: usize, cartridge: Cartridge) -> usize {
     let layout = cartridge.layout;
     let mirroring = cartridge.mirroring;
     let revision = cartridge.revision;
@@ -49,7 +50,7 @@ pub fn put_cartridge(out: &mut [u8; ROOM], len: usize, cartridge: Cartridge) -> 
 }
 
 // The meaning of a number, by its place from 5 on.
-fn put_meaning(out: &mut [u8; ROOM], len: usize, number: u8) -> usize {
+fn put_meaning(out: &mut Output, len: usize, number: u8) -> usize {
     if number < 5 {
         return len;
     }
@@ -64,7 +65,7 @@ fn put_meaning(out: &mut [u8; ROOM], len: usize, number: u8) -> usize {
 }
 
 // The number with its meaning, without a line end.
-pub fn put_refusal(out: &mut [u8; ROOM], len: usize, number: u8) -> usize {
+pub fn put_refusal(out: &mut Output, len: usize, number: u8) -> usize {
     let numbers = [number as u32];
     let a = put_form(out, len, b"refused by %d", &numbers);
     put_meaning(out, a, number)

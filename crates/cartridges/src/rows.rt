@@ -1,10 +1,11 @@
 // Rows of headers: each is played, and those whose answer differs are printed.
 use crate::row::{LONGEST_FILE, Row, read_row};
-use cartridge_files::{FileRead, LONGEST, read_file};
+use cartridge_files::{FileRead, LONGEST, fail, read_file};
 use cartridge_header::read_header;
 use cartridge_report::answers::{answer_numbers, put_numbers};
+use std::io::Stdout;
 use text_output::forms::{put_form, put_nth, until};
-use text_output::{ROOM, flush, put, put_text};
+use text_output::{Output, flush, put, put_text};
 use text_words::next_word;
 
 #[derive(Clone, Copy)]
@@ -53,7 +54,7 @@ impl Counts {
     }
 }
 
-fn put_fault(out: &mut [u8; ROOM], len: usize, line: u32, fault: usize) -> usize {
+fn put_fault(out: &mut Output, len: usize, line: u32, fault: usize) -> usize {
     let numbers = [line];
     let a = put_form(out, len, b"line %d: ", &numbers);
     put_nth(
@@ -68,7 +69,7 @@ fn put_fault(out: &mut [u8; ROOM], len: usize, line: u32, fault: usize) -> usize
 }
 
 fn put_wrong(
-    out: &mut [u8; ROOM],
+    out: &mut Output,
     len: usize,
     line: u32,
     expected: [u32; 10],
@@ -111,12 +112,7 @@ fn answer_of(file: &mut [u8; LONGEST_FILE], head: [u8; 16], length: usize) -> [u
     [0; 10]
 }
 
-fn play_row(
-    given: Counts,
-    row: Row,
-    file: &mut [u8; LONGEST_FILE],
-    out: &mut [u8; ROOM],
-) -> Counts {
+fn play_row(given: Counts, row: Row, file: &mut [u8; LONGEST_FILE], out: &mut Output) -> Counts {
     if row.fault != 0 {
         return given.add_bad(put_fault(out, given.len, given.line, row.fault));
     }
@@ -143,7 +139,7 @@ fn play_line(
     given: Counts,
     line: &[u8],
     file: &mut [u8; LONGEST_FILE],
-    out: &mut [u8; ROOM],
+    out: &mut Output,
 ) -> Counts {
     if is_row(line) {
         return play_row(given, read_row(line), file, out);
@@ -151,7 +147,7 @@ fn play_line(
     given
 }
 
-fn play_lines(text: &[u8], file: &mut [u8; LONGEST_FILE], out: &mut [u8; ROOM]) -> Counts {
+fn play_lines(text: &[u8], file: &mut [u8; LONGEST_FILE], out: &mut Output) -> Counts {
     let mut counts = Counts::new();
     let mut at: usize = 0;
     while at < text.len() {
@@ -164,7 +160,7 @@ fn play_lines(text: &[u8], file: &mut [u8; LONGEST_FILE], out: &mut [u8; ROOM]) 
 }
 
 // The counts, behind the name.
-fn finish(name: &[u8], counts: Counts, out: &mut [u8; ROOM]) {
+fn finish(name: &[u8], counts: Counts, out: &mut Output) {
     let numbers = [counts.rows, counts.wrong, counts.bad];
     let a = put_text(out, counts.len, name);
     let b = put_form(out, a, b": %d rows, %d wrong, %d bad lines\n", &numbers);
@@ -172,9 +168,9 @@ fn finish(name: &[u8], counts: Counts, out: &mut [u8; ROOM]) {
 }
 
 // The first n bytes of the buffer are the text.
-fn play_first(name: &[u8], bytes: &[u8; LONGEST], n: usize) {
+fn play_first(stdout: Stdout, name: &[u8], bytes: &[u8; LONGEST], n: usize) {
     let mut file = [0u8; LONGEST_FILE];
-    let mut out = [0u8; ROOM];
+    let mut out = Output::new(stdout);
     let all: &[u8] = bytes;
     if n < all.len() {
         let counts = play_lines(&all[0..n], &mut file, &mut out);
@@ -186,10 +182,10 @@ fn play_first(name: &[u8], bytes: &[u8; LONGEST], n: usize) {
     flush(&out, b);
 }
 
-pub(crate) fn play_file(name: &[u8]) {
+pub(crate) fn play_file(rt: &HostRuntime, name: &[u8]) {
     let mut bytes = [0u8; LONGEST];
-    match read_file(name, &mut bytes) {
-        FileRead::Bytes(n) => play_first(name, &bytes, n),
-        FileRead::Failed => os::fail(name),
+    match read_file(rt, name, &mut bytes) {
+        FileRead::Bytes(n) => play_first(rt.stdout(), name, &bytes, n),
+        FileRead::Failed(error) => fail(rt.stderr(), name, error),
     }
 }

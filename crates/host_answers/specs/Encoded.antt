@@ -9,7 +9,6 @@ use Rattle.audio.specs.declared.Level.{Level}
 use Rattle.audio.specs.declared.Level.TheVariants.{Silent, Held, Playing, Refused as NoLevel}
 use Rattle.irq.specs.Timing.{clock_answer}
 use Rattle.audio.specs.Sound.{with_timers}
-use Rattle.vrc6_parts.specs.Checks.{all_zero}
 use Rattle.vrc6.specs.declared.board.Board.{Board}
 use Rattle.vrc6.specs.declared.board.Clocked.{Clocked}
 use Rattle.vrc6_engine.specs.declared.steady.Steady.{Steady}

@@ -1,5 +1,6 @@
 // What the lent forms answer, and the calls by value that they are made of: numbers in place of enums, which do not cross.
 #![tactic(auto)]
+
 ghost use Rattle.std.specs.Prelude.{◌≡◌};
 ghost use Rattle.vrc6.specs.Boards.{held_by};
 ghost use Rattle.vrc6.specs.Calls.{forecast, level, reset};

@@ -3,6 +3,7 @@
 // Every call is total and refuses by number. Refused, it leaves board and buffers as they were; only create leaves the
 // zero board. Board and buffers cross as references, an answer as a number or a small struct.
 #![tactic(auto)]
+
 pub mod files;
 
 ghost use Rattle.std.specs.Prelude.{◌≡◌};
@@ -83,12 +84,7 @@ pub fn vrc6_picture_write(
 }
 
 // Where the page of a picture address lies, for a host that keeps both buffers.
-pub fn vrc6_page_view(
-    board: &mut Board,
-    fixed: &[u8],
-    changing: &[u8],
-    addr: u16,
-) -> PageAt
+pub fn vrc6_page_view(board: &mut Board, fixed: &[u8], changing: &[u8], addr: u16) -> PageAt
     ensures { (board.new ≡ board.old)
         × (result ≡ page_at (held_by board.old fixed.now changing.now) addr) }
 {
@@ -97,13 +93,7 @@ pub fn vrc6_page_view(
 }
 
 // bus is the byte that the bus last held: with the setting on, a read where nothing is there hands it back.
-pub fn vrc6_cpu_read(
-    board: &mut Board,
-    fixed: &[u8],
-    changing: &[u8],
-    addr: u16,
-    bus: u8,
-) -> Peeked
+pub fn vrc6_cpu_read(board: &mut Board, fixed: &[u8], changing: &[u8], addr: u16, bus: u8) -> Peeked
     ensures { (board.new ≡ board.old)
         × (result ≡ byte_answer (byte_read (by_cpu bus) (held_by board.old fixed.now changing.now) addr)) }
 {
@@ -114,12 +104,7 @@ pub fn vrc6_cpu_read(
     cpu_peek(layout, page, open_bus, fixed, changing, addr, bus)
 }
 
-pub fn vrc6_picture_read(
-    board: &mut Board,
-    fixed: &[u8],
-    changing: &[u8],
-    addr: u16,
-) -> Peeked
+pub fn vrc6_picture_read(board: &mut Board, fixed: &[u8], changing: &[u8], addr: u16) -> Peeked
     ensures { (board.new ≡ board.old)
         × (result ≡ byte_answer (byte_read by_picture (held_by board.old fixed.now changing.now) addr)) }
 {

@@ -1,5 +1,6 @@
 // The calls for C. Each is the call of the same name with the board lent, and promises the same.
 #![tactic(auto)]
+
 ghost use Rattle.std.specs.Prelude.{◌≡◌, length};
 ghost use Rattle.vrc6_parts.specs.Reads.{by_cpu, by_picture};
 ghost use Rattle.vrc6.specs.Boards.{held_by};

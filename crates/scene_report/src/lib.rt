@@ -1,5 +1,6 @@
 // What is printed of a verdict, and of a sweep.
 #![tactic(auto)]
+
 pub mod sweeping;
 
 use scene_moments::Verdict;
@@ -8,10 +9,10 @@ use scene_moments::verdict::{EARLY, LOST, NEVER, RIGHT, Seen};
 use scene_sweep::tally::Wrong;
 use scene_sweep::{Run, Span, Tally};
 use text_output::forms::{put_form, put_nth};
-use text_output::{ROOM, put, put_number, put_text};
+use text_output::{Output, put, put_number, put_text};
 
 // By how many lines.
-fn put_lines(out: &mut [u8; ROOM], len: usize, off: u32) -> usize {
+fn put_lines(out: &mut Output, len: usize, off: u32) -> usize {
     if off == 1 {
         return put_text(out, len, b"one");
     }
@@ -19,7 +20,7 @@ fn put_lines(out: &mut [u8; ROOM], len: usize, off: u32) -> usize {
 }
 
 // `ok`, or `, one late`, behind a line's number.
-fn put_off(out: &mut [u8; ROOM], len: usize, verdict: Verdict) -> usize {
+fn put_off(out: &mut Output, len: usize, verdict: Verdict) -> usize {
     if verdict.mark == RIGHT {
         return put_text(out, len, b" ok");
     }
@@ -32,7 +33,7 @@ fn put_off(out: &mut [u8; ROOM], len: usize, verdict: Verdict) -> usize {
 }
 
 // `line 12 ok`, `line 13, one late`, `never`. One that is lost has words of its own.
-pub fn put_verdict(out: &mut [u8; ROOM], len: usize, verdict: Verdict) -> usize {
+pub fn put_verdict(out: &mut Output, len: usize, verdict: Verdict) -> usize {
     if verdict.mark == NEVER {
         return put_text(out, len, b"never");
     }
@@ -42,7 +43,7 @@ pub fn put_verdict(out: &mut [u8; ROOM], len: usize, verdict: Verdict) -> usize 
 }
 
 // ` clock 228`, ` clocks 228..287`.
-fn put_clocks(out: &mut [u8; ROOM], len: usize, clocks: Span) -> usize {
+fn put_clocks(out: &mut Output, len: usize, clocks: Span) -> usize {
     let numbers = [clocks.least, clocks.most];
     if clocks.least == clocks.most {
         return put_form(out, len, b" clock %d", &numbers);
@@ -51,7 +52,7 @@ fn put_clocks(out: &mut [u8; ROOM], len: usize, clocks: Span) -> usize {
 }
 
 // An interrupt that the menu cleared.
-fn put_lost(out: &mut [u8; ROOM], len: usize, set: Span, cleared: Span) -> usize {
+fn put_lost(out: &mut Output, len: usize, set: Span, cleared: Span) -> usize {
     let a = put_text(out, len, b"set on");
     let b = put_clocks(out, a, set);
     let c = put_text(out, b, b" inside the menu, cleared by it on");
@@ -59,7 +60,7 @@ fn put_lost(out: &mut [u8; ROOM], len: usize, set: Span, cleared: Span) -> usize
 }
 
 // What is seen of a moment.
-fn put_seen(out: &mut [u8; ROOM], len: usize, seen: Seen) -> usize {
+fn put_seen(out: &mut Output, len: usize, seen: Seen) -> usize {
     let verdict = seen.verdict;
     if verdict.mark == LOST {
         let set = Span::of(seen.set);
@@ -70,7 +71,7 @@ fn put_seen(out: &mut [u8; ROOM], len: usize, seen: Seen) -> usize {
 }
 
 // How many clocks later than without the menu, with a minus for earlier.
-fn put_later(out: &mut [u8; ROOM], len: usize, clock: u32, alone: u32) -> usize {
+fn put_later(out: &mut Output, len: usize, clock: u32, alone: u32) -> usize {
     if clock < alone {
         let a = put(out, len, b'-');
         return put_number(out, a, alone - clock);
@@ -79,7 +80,7 @@ fn put_later(out: &mut [u8; ROOM], len: usize, clock: u32, alone: u32) -> usize 
 }
 
 // A run's drift, and how many clocks earlier and later would be another line.
-fn put_drift(out: &mut [u8; ROOM], len: usize, set: Span, screen: Screen, alone: u32) -> usize {
+fn put_drift(out: &mut Output, len: usize, set: Span, screen: Screen, alone: u32) -> usize {
     let a = put_text(out, len, b"; drift ");
     let mut b = put_later(out, a, set.least, alone);
     if set.least != set.most {
@@ -94,7 +95,7 @@ fn put_drift(out: &mut [u8; ROOM], len: usize, set: Span, screen: Screen, alone:
 }
 
 // What all moments of a run have.
-fn put_all(out: &mut [u8; ROOM], len: usize, run: Run, screen: Screen, alone: u32) -> usize {
+fn put_all(out: &mut Output, len: usize, run: Run, screen: Screen, alone: u32) -> usize {
     let first = run.first;
     let verdict = first.verdict;
     if verdict.mark == LOST {
@@ -110,7 +111,7 @@ fn put_all(out: &mut [u8; ROOM], len: usize, run: Run, screen: Screen, alone: u3
 // A run of clocks, from its first to its last, in a sweep from where the writes end. Without the menu the interrupt comes on clock
 // `alone`. A word heads the first run; the others stand below it.
 pub fn put_run(
-    out: &mut [u8; ROOM],
+    out: &mut Output,
     len: usize,
     from: u32,
     last: u32,
@@ -125,7 +126,7 @@ pub fn put_run(
     put(out, c, b'\n')
 }
 
-fn put_moment(out: &mut [u8; ROOM], len: usize, name: &[u8], wrong: Wrong) -> usize {
+fn put_moment(out: &mut Output, len: usize, name: &[u8], wrong: Wrong) -> usize {
     let a = put_text(out, len, name);
     let b = put_number(out, a, wrong.clock);
     let c = put_text(out, b, b": ");
@@ -134,7 +135,7 @@ fn put_moment(out: &mut [u8; ROOM], len: usize, name: &[u8], wrong: Wrong) -> us
 }
 
 // The first wrong moment and the worst.
-pub fn put_worst(out: &mut [u8; ROOM], len: usize, tally: Tally) -> usize {
+pub fn put_worst(out: &mut Output, len: usize, tally: Tally) -> usize {
     let a = put_moment(out, len, b"  first wrong at clock ", tally.first);
     put_moment(out, a, b"  worst at clock ", tally.worst)
 }
@@ -150,7 +151,7 @@ fn mark_of(mark: u8) -> u8 {
 }
 
 // The bar of 64 columns.
-pub fn put_bar(out: &mut [u8; ROOM], len: usize, bar: &[u8; 64]) -> usize {
+pub fn put_bar(out: &mut Output, len: usize, bar: &[u8; 64]) -> usize {
     let mut n = put_text(out, len, b"  [");
     let mut i: usize = 0;
     while i < 64 {

@@ -5,7 +5,7 @@ use crate::{put_bar, put_run, put_worst};
 use irq::VrcIrq;
 use scene_sweep::bar::{mark, unmarked};
 use scene_sweep::{Sweep, Tally};
-use text_output::ROOM;
+use text_output::Output;
 
 // The moments that are wrong, the bar, and how many bytes the output buffer holds.
 #[derive(Clone, Copy)]
@@ -21,7 +21,7 @@ pub fn sweep_clocks(
     start: VrcIrq,
     clocks: u32,
     menu: &[u32],
-    out: &mut [u8; ROOM],
+    out: &mut Output,
     len: usize,
 ) -> Swept
     ensures { SweptOf given menu.now start clocks clocks result.tally result.bar }
@@ -45,7 +45,7 @@ pub fn sweep_clocks(
 }
 
 // What a sweep found, below its runs.
-pub fn put_found(out: &mut [u8; ROOM], swept: Swept) -> usize {
+pub fn put_found(out: &mut Output, swept: Swept) -> usize {
     let tally = swept.tally;
     let bar = swept.bar;
     let mut n = swept.len;

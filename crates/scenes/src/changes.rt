@@ -10,7 +10,7 @@ use scene_moments::verdict::{NEVER, RIGHT, verdict_of};
 use scene_steps::Step;
 use scene_steps::step::{code_of, step_coded};
 use text_output::forms::{put_form, put_nth};
-use text_output::{ROOM, put_text};
+use text_output::{Output, put_text};
 
 // No address.
 const NOWHERE: u32 = 0x1_0000;
@@ -28,7 +28,7 @@ fn put_never(
     scene: Scene,
     fixed: &[u8],
     writes: &[u32],
-    out: &mut [u8; ROOM],
+    out: &mut Output,
     len: usize,
 ) -> usize {
     if !armed_by_other(scene, fixed, writes) {
@@ -48,7 +48,7 @@ fn put_never(
 }
 
 // The latch that arms for a line, for writes that end with control in line mode: 256 less the lines to go.
-fn put_latch(screen: Screen, window: u32, out: &mut [u8; ROOM], len: usize) -> usize {
+fn put_latch(screen: Screen, window: u32, out: &mut Output, len: usize) -> usize {
     let begin = screen.line as u32;
     let lines = std::num::wrapping_sub_u32(window, begin);
     let latch = std::num::wrapping_sub_u32(256, lines);
@@ -113,7 +113,7 @@ fn put_other_latch(
     line: u32,
     fixed: &[u8],
     writes: &[u32],
-    out: &mut [u8; ROOM],
+    out: &mut Output,
     len: usize,
 ) -> usize {
     let near = std::num::wrapping_sub_u32(line, scene.window);
@@ -138,7 +138,7 @@ pub(crate) fn put_changes(
     verdict: Verdict,
     fixed: &[u8],
     writes: &[u32],
-    out: &mut [u8; ROOM],
+    out: &mut Output,
     len: usize,
 ) -> usize {
     if (scene.window == NO_WINDOW) | (verdict.mark == RIGHT) | irq.irq_pending {
@@ -178,7 +178,7 @@ pub(crate) fn put_unreached(
     revision_b: bool,
     writes: &[u32],
     menu: &[u32],
-    out: &mut [u8; ROOM],
+    out: &mut Output,
     len: usize,
 ) -> usize {
     let mut addr = first_unreached(revision_b, writes);

@@ -16,7 +16,7 @@ use scene_report::sweeping::{put_found, sweep_clocks};
 use scene_steps::letters::slots_right;
 use scene_sweep::Sweep;
 use text_output::forms::{put_form, put_nth};
-use text_output::{ROOM, put, put_text};
+use text_output::{Output, put, put_text};
 
 // What the menu came to: whether it is right, whether it was swept, and over how many moments, and how many are wrong.
 #[derive(Clone, Copy)]
@@ -64,7 +64,7 @@ fn verdict_alone(irq: VrcIrq, sweep: Sweep) -> Verdict {
 }
 
 // The window asked, or only where the interrupt comes.
-fn put_line(out: &mut [u8; ROOM], len: usize, verdict: Verdict, asked: bool) -> usize {
+fn put_line(out: &mut Output, len: usize, verdict: Verdict, asked: bool) -> usize {
     let a = put_nth(out, len, b"  interrupt: |  window: ", asked as usize);
     if asked | (verdict.mark == NEVER) {
         return put_verdict(out, a, verdict);
@@ -74,7 +74,7 @@ fn put_line(out: &mut [u8; ROOM], len: usize, verdict: Verdict, asked: bool) -> 
 }
 
 // The clock behind an interrupt's line, or that it was pending already.
-fn put_clock(out: &mut [u8; ROOM], len: usize, pending: bool, came: Came) -> usize {
+fn put_clock(out: &mut Output, len: usize, pending: bool, came: Came) -> usize {
     if pending {
         return put_text(out, len, b", pending at the end of the writes\n");
     }
@@ -86,7 +86,7 @@ fn put_clock(out: &mut [u8; ROOM], len: usize, pending: bool, came: Came) -> usi
 }
 
 fn put_window(
-    out: &mut [u8; ROOM],
+    out: &mut Output,
     len: usize,
     window: u32,
     irq: VrcIrq,
@@ -97,7 +97,7 @@ fn put_window(
 }
 
 // Why there is no sweep.
-fn put_not_swept(out: &mut [u8; ROOM], len: usize, pending: bool) -> usize {
+fn put_not_swept(out: &mut Output, len: usize, pending: bool) -> usize {
     put_nth(
         out,
         len,
@@ -124,7 +124,7 @@ fn check_arming(
     irq: VrcIrq,
     armed: bool,
     menu: &[u32],
-    out: &mut [u8; ROOM],
+    out: &mut Output,
     len: usize,
 ) -> Checked {
     let came = came_after(irq, 0, sweep.revision_b, menu);
@@ -150,7 +150,7 @@ fn check_menu(
     fixed: &[u8],
     writes: &[u32],
     menu: &[u32],
-    out: &mut [u8; ROOM],
+    out: &mut Output,
     len: usize,
 ) -> Checked {
     let clocks = clocks_due(irq);
@@ -199,7 +199,7 @@ fn kind_of(asked: [u32; 8], window: u32, menu: Checked, right: bool, untried: bo
 }
 
 // Over how many moments the menu was swept, if it was.
-fn put_moments(out: &mut [u8; ROOM], len: usize, menu: Checked) -> usize {
+fn put_moments(out: &mut Output, len: usize, menu: Checked) -> usize {
     let numbers = [menu.moments, menu.wrong];
     if !menu.swept {
         return put(out, len, b'\n');
@@ -211,7 +211,7 @@ fn put_moments(out: &mut [u8; ROOM], len: usize, menu: Checked) -> usize {
 }
 
 // The last line of a scene.
-fn put_kind(out: &mut [u8; ROOM], menu: Checked, kind: u8) -> Outcome {
+fn put_kind(out: &mut Output, menu: Checked, kind: u8) -> Outcome {
     let place = std::num::wrapping_sub_usize(kind as usize, WRONG_SCENE as usize);
     let a = put_nth(
         out,
@@ -225,7 +225,7 @@ fn put_kind(out: &mut [u8; ROOM], menu: Checked, kind: u8) -> Outcome {
 
 // The letters, behind the menu if there is one.
 fn put_after(
-    out: &mut [u8; ROOM],
+    out: &mut Output,
     len: usize,
     ended: Ended,
     asked: [u32; 8],
@@ -245,7 +245,7 @@ pub(crate) fn check(
     fixed: &[u8],
     writes: &[u32],
     menu: &[u32],
-    out: &mut [u8; ROOM],
+    out: &mut Output,
     len: usize,
 ) -> Outcome {
     let irq = ended.irq;

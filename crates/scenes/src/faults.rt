@@ -1,6 +1,6 @@
 // What is wrong with a row, as a line: the row, the column, and what is wrong.
 use text_output::forms::{put_form, put_nth};
-use text_output::{ROOM, put, put_text};
+use text_output::{Output, put, put_text};
 
 // The columns, by scene_cells' `column_of`.
 pub const SCENE: usize = 0;
@@ -80,7 +80,7 @@ pub struct Place {
 }
 
 // The beginning of a fault.
-fn put_place(out: &mut [u8; ROOM], len: usize, row: u32, column: usize) -> usize {
+fn put_place(out: &mut Output, len: usize, row: u32, column: usize) -> usize {
     let numbers = [row];
     let a = put_form(out, len, b"row %d", &numbers);
     put_nth(
@@ -92,7 +92,7 @@ fn put_place(out: &mut [u8; ROOM], len: usize, row: u32, column: usize) -> usize
 }
 
 // A byte of a cell. Control characters are written as \xHH, so that a cell stays on its line; a backslash is doubled.
-fn put_byte(out: &mut [u8; ROOM], len: usize, byte: u8) -> usize {
+fn put_byte(out: &mut Output, len: usize, byte: u8) -> usize {
     let numbers = [byte as u32];
     if (byte < 32) | (byte == 127) {
         return put_form(out, len, b"\\x%h", &numbers);
@@ -104,7 +104,7 @@ fn put_byte(out: &mut [u8; ROOM], len: usize, byte: u8) -> usize {
 }
 
 // A cell's bytes; in quotes a doubled quote stands for one.
-pub(crate) fn put_cell(out: &mut [u8; ROOM], len: usize, cell: &[u8], quoted: bool) -> usize {
+pub(crate) fn put_cell(out: &mut Output, len: usize, cell: &[u8], quoted: bool) -> usize {
     let mut n = len;
     let mut i: usize = 0;
     let mut half = false;
@@ -121,7 +121,7 @@ pub(crate) fn put_cell(out: &mut [u8; ROOM], len: usize, cell: &[u8], quoted: bo
 
 // A fault of a row or a cell.
 pub(crate) fn put_fault(
-    out: &mut [u8; ROOM],
+    out: &mut Output,
     len: usize,
     row: u32,
     column: usize,
@@ -148,7 +148,7 @@ pub(crate) fn put_fault(
 
 // A fault of a word, which stands in single quotes.
 pub(crate) fn put_word_fault(
-    out: &mut [u8; ROOM],
+    out: &mut Output,
     len: usize,
     at: Place,
     word: &[u8],
@@ -191,7 +191,7 @@ pub(crate) fn put_word_fault(
 }
 
 // What a file says in a column, as a cell says it.
-pub(crate) fn put_said(out: &mut [u8; ROOM], len: usize, column: usize, said: u32) -> usize {
+pub(crate) fn put_said(out: &mut Output, len: usize, column: usize, said: u32) -> usize {
     let numbers = [said];
     match column {
         REVISION => put_nth(out, len, b"A\n|B\n", said as usize),

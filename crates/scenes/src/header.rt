@@ -6,7 +6,7 @@ use scene_cells::columns::{NO_COLUMN, column_of};
 use scene_cells::lookup::{Found, find_column};
 use scene_cells::separators::{SepLine, sep_line, separator_in};
 use scene_cells::{Cell, cell_at};
-use text_output::ROOM;
+use text_output::Output;
 use text_output::forms::put_nth;
 use text_words::is_empty;
 
@@ -29,7 +29,7 @@ const NOT_USED: usize = 2;
 
 const NEARLY: usize = 3;
 
-fn put_named(out: &mut [u8; ROOM], len: usize, name: &[u8], quoted: bool, fault: usize) -> usize {
+fn put_named(out: &mut Output, len: usize, name: &[u8], quoted: bool, fault: usize) -> usize {
     if fault == 0 {
         return len;
     }
@@ -84,7 +84,7 @@ fn name_fault(text: &[u8], header: HeaderRow, name: &[u8]) -> usize {
 }
 
 // Takes the next cell, which holds a name.
-fn take(given: HeaderRow, text: &[u8], out: &mut [u8; ROOM], cell: Cell, name: &[u8]) -> HeaderRow {
+fn take(given: HeaderRow, text: &[u8], out: &mut Output, cell: Cell, name: &[u8]) -> HeaderRow {
     let mut header = given;
     let fault = name_fault(text, given, name);
     let len = put_named(out, given.len, name, cell.quoted, fault);
@@ -130,7 +130,7 @@ fn first_row(text: &[u8], len: usize) -> HeaderRow {
     }
 }
 
-pub(crate) fn read_header_row(text: &[u8], out: &mut [u8; ROOM], len: usize) -> HeaderRow {
+pub(crate) fn read_header_row(text: &[u8], out: &mut Output, len: usize) -> HeaderRow {
     let mut header = first_row(text, len);
     let mut left = std::num::wrapping_add_usize(text.len(), 1);
     while left > 0 {

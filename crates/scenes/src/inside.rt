@@ -7,7 +7,7 @@ use scene_moments::moment::clocks_due;
 use scene_steps::Step;
 use scene_steps::step::step_coded;
 use scene_sweep::{Met, Sweep};
-use text_output::ROOM;
+use text_output::Output;
 
 // Whether no interrupt meets wrong letters, and how many bytes the output buffer holds.
 #[derive(Clone, Copy)]
@@ -70,7 +70,7 @@ fn put_met(
     fixed: &[u8],
     writes: &[u32],
     menu: &[u32],
-    out: &mut [u8; ROOM],
+    out: &mut Output,
     len: usize,
     met: Met,
 ) -> usize {
@@ -87,7 +87,7 @@ pub(crate) fn put_inside(
     fixed: &[u8],
     writes: &[u32],
     menu: &[u32],
-    out: &mut [u8; ROOM],
+    out: &mut Output,
     len: usize,
 ) -> Inside {
     if !are_asked(asked) {

@@ -3,7 +3,7 @@ use scene_banks::NO_BANK;
 use scene_steps::letters::{slot_right, slots_right};
 use scene_sweep::Met;
 use text_output::forms::{put_form, put_nth};
-use text_output::{ROOM, put};
+use text_output::{Output, put};
 
 // When letters are looked at: at the end of the writes, behind the menu, or where the interrupt comes inside it.
 pub const AT_END: usize = 0;
@@ -20,7 +20,7 @@ pub(crate) fn are_asked(asked: [u32; 8]) -> bool {
 
 // A slot that shows another bank than the one that was asked, both in decimal and in hexadecimal.
 fn put_slot(
-    out: &mut [u8; ROOM],
+    out: &mut Output,
     len: usize,
     when: usize,
     slot: u32,
@@ -52,7 +52,7 @@ fn put_slot(
 }
 
 // The end of its line: inside the menu also at how many moments, and the first of them.
-fn put_when(out: &mut [u8; ROOM], len: usize, when: usize, met: Met) -> usize {
+fn put_when(out: &mut Output, len: usize, when: usize, met: Met) -> usize {
     if when != INSIDE {
         return put(out, len, b'\n');
     }
@@ -64,7 +64,7 @@ fn put_when(out: &mut [u8; ROOM], len: usize, when: usize, met: Met) -> usize {
 }
 
 fn put_slots(
-    out: &mut [u8; ROOM],
+    out: &mut Output,
     len: usize,
     when: usize,
     shown: [u32; 8],
@@ -85,7 +85,7 @@ fn put_slots(
 
 // The banks that slots show at the end of the writes, or after the menu.
 pub(crate) fn put_letters(
-    out: &mut [u8; ROOM],
+    out: &mut Output,
     len: usize,
     when: usize,
     shown: [u32; 8],
@@ -112,7 +112,7 @@ pub(crate) fn put_letters(
 
 // The banks that they show at the first of the moments at which an interrupt meets wrong letters inside the menu.
 pub(crate) fn put_inside_slots(
-    out: &mut [u8; ROOM],
+    out: &mut Output,
     len: usize,
     shown: [u32; 8],
     asked: [u32; 8],

@@ -5,7 +5,7 @@ use crate::scene::MOST_STEPS;
 use scene_steps::Step;
 use scene_steps::letters::{ANY_BANK, Pair, pair_of};
 use scene_steps::step::{code_of, step_of};
-use text_output::ROOM;
+use text_output::Output;
 use text_words::next_word;
 
 // How many words were taken, whether all were right, and how many bytes the output buffer holds.
@@ -57,7 +57,7 @@ fn take_word(kept: &mut [u32], count: usize, column: usize, word: &[u8]) -> usiz
     take_step(kept, count, word)
 }
 
-fn take_words(cell: &[u8], kept: &mut [u32], out: &mut [u8; ROOM], len: usize, at: Place) -> Words {
+fn take_words(cell: &[u8], kept: &mut [u32], out: &mut Output, len: usize, at: Place) -> Words {
     let mut words = Words {
         count: 0,
         good: true,
@@ -87,7 +87,7 @@ pub(crate) fn read_words(
     text: &[u8],
     starts: Starts,
     kept: &mut [u32],
-    out: &mut [u8; ROOM],
+    out: &mut Output,
     len: usize,
     row: u32,
     column: usize,

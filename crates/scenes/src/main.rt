@@ -18,52 +18,53 @@ mod source;
 mod totals;
 
 use crate::run::run;
-use libc::{STDIN_FILENO, STDOUT_FILENO};
+use cartridge_files::{fail, open_read, read_full};
 use scene_cells::spaces::blank_spaces;
+use std::env::{Env, FillError};
+use std::io::{Error, Print, Read};
 
 // One byte more than a sheet may have.
 const SHEET: usize = 2097153;
 
 // A no-break space counts as a blank.
-fn read_sheet(fd: i32, text: &mut [u8; SHEET]) -> usize {
+fn read_sheet<F: Read>(file: &mut F, text: &mut [u8; SHEET]) -> usize {
     let all: &mut [u8] = text;
-    let n = io::read_full(fd, all);
+    let n = read_full(file, all);
     blank_spaces(all);
     n
 }
 
 // Says that nothing was played of a sheet that can't be read.
-fn unread(name: &[u8]) {
-    os::fail(name);
-    io::write_all(STDOUT_FILENO, b"nothing was played\n");
+fn unread(rt: &HostRuntime, name: &[u8], error: Error) {
+    fail(rt.stderr(), name, error);
+    let _ = rt.stdout().write_all(b"nothing was played\n");
 }
 
 // Whether reading ended by the file's end, and not by an error: one more read says so.
-fn was_read(fd: i32) -> bool {
+fn was_read<F: Read>(file: &mut F) -> Result<usize, Error> {
     let mut more = [0u8; 1];
-    libc::read(fd, &mut more) >= 0
+    file.read(&mut more)
 }
 
-fn run_sheet(sheet: &[u8], text: &[u8; SHEET], n: usize) {
+fn run_sheet(rt: &HostRuntime, sheet: &[u8], text: &[u8; SHEET], n: usize) {
     let all: &[u8] = text;
     if n <= all.len() {
-        run(sheet, &all[0..n]);
+        run(rt, sheet, &all[0..n]);
     }
 }
 
 // The names of cartridge files are taken from the folder of the sheet's path.
-fn play(fd: i32, name: &[u8], sheet: &[u8]) {
+fn play<F: Read>(rt: &HostRuntime, file: &mut F, name: &[u8], sheet: &[u8]) {
     let mut text = [0u8; SHEET];
-    let n = read_sheet(fd, &mut text);
-    if !was_read(fd) {
-        unread(name);
-        return;
+    let n = read_sheet(file, &mut text);
+    match was_read(file) {
+        Ok(_) => run_sheet(rt, sheet, &text, n),
+        Err(error) => unread(rt, name, error),
     }
-    run_sheet(sheet, &text, n);
 }
 
-fn play_input() {
-    play(STDIN_FILENO, b"standard input", b"");
+fn play_input(rt: &HostRuntime) {
+    play(rt, &mut rt.stdin(), b"standard input", b"");
 }
 
 // A path that is `-` alone stands for standard input.
@@ -74,42 +75,57 @@ fn is_input(path: &[u8]) -> bool {
     false
 }
 
-fn play_file(path: &[u8]) {
+fn play_file(rt: &HostRuntime, path: &[u8]) {
     if is_input(path) {
-        play_input();
+        play_input(rt);
         return;
     }
-    let fd = os::open_read(path);
-    if fd < 0 {
-        unread(path);
-        return;
+    match open_read(rt, path) {
+        Ok(file) => {
+            let mut opened = file;
+            play(rt, &mut opened, path, path);
+        }
+        Err(error) => unread(rt, path, error),
     }
-    play(fd, path, path);
-    libc::close(fd);
 }
 
-// The sheet that argument i names. Where there are several, its name stands above what is printed of it.
-fn play_argument(i: usize, several: bool) {
-    let mut space = io::buffer();
-    let path: &mut [u8] = &mut space;
-    let n = os::arg(i, path);
-    let all = &path[..];
+// Where there are several sheets, its name stands above what is printed of one.
+fn play_named(rt: &HostRuntime, path: &[u8], several: bool) {
     if several {
-        io::write_all(STDOUT_FILENO, &all[0..n]);
-        io::write_all(STDOUT_FILENO, b"\n");
+        let _ = rt.stdout().write_all(path);
+        let _ = rt.stdout().write_all(b"\n");
     }
-    play_file(&all[0..n]);
+    play_file(rt, path);
 }
 
-fn main() {
-    let count = os::arg_count();
-    if count < 2 {
-        play_input();
+// The sheet that argument i names. A name that is longer than any path counts as empty.
+fn play_argument(rt: &HostRuntime, i: usize, several: bool) {
+    let mut space = [0u8; 4096];
+    let path: &mut [u8] = &mut space;
+    match rt.arg(i, path) {
+        Ok(n) => play_named(rt, &path[0..n], several),
+        Err(_) => play_named(rt, b"", several),
+    }
+}
+
+fn has_argument(rt: &HostRuntime, i: usize) -> bool {
+    let mut start = [0u8; 1];
+    match rt.arg(i, &mut start) {
+        Err(FillError::NotPresent) => false,
+        _ => true,
+    }
+}
+
+fn main(rt: HostRuntime) {
+    if !has_argument(&rt, 1) {
+        play_input(&rt);
         return;
     }
-    let mut i: usize = 1;
-    while i < count {
-        play_argument(i, count > 2);
-        i += 1;
+    let several = has_argument(&rt, 2);
+    for i in 1..usize::MAX {
+        if !has_argument(&rt, i) {
+            return;
+        }
+        play_argument(&rt, i, several);
     }
 }

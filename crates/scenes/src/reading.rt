@@ -12,7 +12,7 @@ use scene_files::said::{layout_for, said_in};
 use scene_files::singles::{Single, single_of};
 use scene_steps::picture;
 use scene_steps::picture::{At, at_in};
-use text_output::ROOM;
+use text_output::Output;
 use text_words::next_word;
 
 fn value_of(single: Single) -> u32 {
@@ -137,7 +137,7 @@ fn cell_fault(text: &[u8], starts: Starts, source: Source, column: usize) -> usi
 }
 
 fn put_single(
-    out: &mut [u8; ROOM],
+    out: &mut Output,
     len: usize,
     text: &[u8],
     starts: Starts,
@@ -164,7 +164,7 @@ fn put_single(
 
 // The faults of the cells of one word.
 fn put_singles(
-    out: &mut [u8; ROOM],
+    out: &mut Output,
     len: usize,
     text: &[u8],
     starts: Starts,
@@ -189,7 +189,7 @@ pub(crate) fn read_scene(
     writes: &mut [u32],
     menu: &mut [u32],
     banks: &mut [u32],
-    out: &mut [u8; ROOM],
+    out: &mut Output,
     len: usize,
     row: u32,
 ) -> Scene {

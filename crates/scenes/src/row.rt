@@ -6,7 +6,7 @@ use crate::faults::{BEHIND_A_QUOTE, NO_COLUMN, put_fault};
 use scene_cells::columns::column_of;
 use scene_cells::lookup::{cell_under, nth_cell};
 use scene_cells::{BEHIND_QUOTE, Cell, cell_at};
-use text_output::ROOM;
+use text_output::Output;
 use text_words::is_empty;
 
 // Where the header and a row start, and what stands between cells.
@@ -81,7 +81,7 @@ fn take(
     given: Row,
     text: &[u8],
     starts: Starts,
-    out: &mut [u8; ROOM],
+    out: &mut Output,
     number: u32,
     cell: Cell,
     bytes: &[u8],
@@ -106,7 +106,7 @@ fn take(
 pub(crate) fn read_row(
     text: &[u8],
     starts: Starts,
-    out: &mut [u8; ROOM],
+    out: &mut Output,
     len: usize,
     number: u32,
 ) -> Row {

@@ -8,11 +8,11 @@ use crate::row::{Row, Starts, cell_in, read_row};
 use crate::scene::{MOST_STEPS, Scene};
 use crate::source::source_of;
 use crate::totals::{BAD_ROW, BLANK_ROW, Outcome, Totals};
-use libc::STDERR_FILENO;
 use scene_cells::lookup::{Found, find_column};
 use scene_steps::letters::ANY_BANK;
+use std::io::Stderr;
 use text_output::forms::{put_form, put_nth};
-use text_output::{ROOM, flush, put, put_large, put_text};
+use text_output::{Output, flush, put, put_large, put_text};
 
 // The bytes that a sheet may have.
 const MOST_BYTES: usize = 2097152;
@@ -21,7 +21,7 @@ const MOST_BYTES: usize = 2097152;
 const PROGRESS: u64 = 500000;
 
 // The row's number, and the scene's name if it has one.
-fn put_name(out: &mut [u8; ROOM], len: usize, row: u32, text: &[u8], starts: Starts) -> usize {
+fn put_name(out: &mut Output, len: usize, row: u32, text: &[u8], starts: Starts) -> usize {
     let span = cell_in(text, starts, SCENE);
     let from = span.from;
     let to = span.to;
@@ -47,7 +47,7 @@ fn play_scene(
     writes: &[u32],
     menu: &[u32],
     asked: [u32; 8],
-    out: &mut [u8; ROOM],
+    out: &mut Output,
     len: usize,
 ) -> Outcome {
     let ended = play_steps(scene, fixed, writes, menu);
@@ -59,18 +59,19 @@ fn play_scene(
 }
 
 fn play_cells(
+    rt: &HostRuntime,
     sheet: &[u8],
     text: &[u8],
     starts: Starts,
     fixed: &[u8],
-    out: &mut [u8; ROOM],
+    out: &mut Output,
     len: usize,
     row: u32,
 ) -> Outcome {
     let mut writes = [0u32; MOST_STEPS];
     let mut menu = [0u32; MOST_STEPS];
     let mut asked = [ANY_BANK; 8];
-    let source = source_of(sheet, text, starts);
+    let source = source_of(rt, sheet, text, starts);
     let scene = read_scene(
         text,
         starts,
@@ -107,13 +108,14 @@ fn row_fault(row: Row, cells: usize) -> usize {
 
 // A row, under a header of so many cells.
 fn play_row(
+    rt: &HostRuntime,
     row: Row,
     cells: usize,
     sheet: &[u8],
     text: &[u8],
     starts: Starts,
     fixed: &[u8],
-    out: &mut [u8; ROOM],
+    out: &mut Output,
     number: u32,
 ) -> Outcome {
     if !row.good {
@@ -121,7 +123,7 @@ fn play_row(
     }
     let fault = row_fault(row, cells);
     if fault == 0 {
-        return play_cells(sheet, text, starts, fixed, out, row.len, number);
+        return play_cells(rt, sheet, text, starts, fixed, out, row.len, number);
     }
     let len = put_fault(out, row.len, number, NO_COLUMN, fault);
     if fault == BLANK {
@@ -131,20 +133,16 @@ fn play_row(
 }
 
 // A line of progress, for sheets that take long, if so many moments were swept since the last. Hands back the moments told.
-fn tell(row: u32, moments: u64, told: u64) -> u64 {
+fn tell(stderr: Stderr, row: u32, moments: u64, told: u64) -> u64 {
     if std::num::wrapping_sub_u64(moments, told) < PROGRESS {
         return told;
     }
-    io::write_all(STDERR_FILENO, b"row ");
-    io::print_decimal(STDERR_FILENO, row as u64);
-    io::write_all(STDERR_FILENO, b": ");
-    io::print_decimal(STDERR_FILENO, moments);
-    io::write_all(STDERR_FILENO, b" moments swept\n");
+    let _ = eprintln!(stderr; "row {row}: {moments} moments swept");
     moments
 }
 
 // Each number with what it counts, which has a name for several and a name for 1.
-fn put_counts(out: &mut [u8; ROOM], len: usize, counts: [u64; 7]) -> usize {
+fn put_counts(out: &mut Output, len: usize, counts: [u64; 7]) -> usize {
     let mut n = len;
     let mut i: usize = 0;
     while i < 7 {
@@ -171,7 +169,7 @@ fn put_counts(out: &mut [u8; ROOM], len: usize, counts: [u64; 7]) -> usize {
     n
 }
 
-fn finish(totals: Totals, out: &mut [u8; ROOM]) {
+fn finish(totals: Totals, out: &mut Output) {
     let counts = [
         totals.scenes as u64,
         totals.right as u64,
@@ -186,11 +184,12 @@ fn finish(totals: Totals, out: &mut [u8; ROOM]) {
 }
 
 fn play_rows(
+    rt: &HostRuntime,
     header: HeaderRow,
     sheet: &[u8],
     text: &[u8],
     fixed: &[u8],
-    out: &mut [u8; ROOM],
+    out: &mut Output,
 ) -> Totals {
     let mut totals = Totals::new(header.len);
     let mut told: u64 = 0;
@@ -209,9 +208,9 @@ fn play_rows(
         let number = totals.next_row();
         let row = read_row(text, starts, out, totals.len, number);
         at = row.next;
-        let outcome = play_row(row, header.cells, sheet, text, starts, fixed, out, number);
+        let outcome = play_row(rt, row, header.cells, sheet, text, starts, fixed, out, number);
         totals = totals.add(outcome);
-        told = tell(number, totals.moments, told);
+        told = tell(rt.stderr(), number, totals.moments, told);
     }
     totals
 }
@@ -267,7 +266,7 @@ fn header_fault(header: HeaderRow, text: &[u8]) -> usize {
     0
 }
 
-fn put_sheet_fault(out: &mut [u8; ROOM], len: usize, fault: usize) {
+fn put_sheet_fault(out: &mut Output, len: usize, fault: usize) {
     let n = put_nth(
         out,
         len,
@@ -282,9 +281,9 @@ fn put_sheet_fault(out: &mut [u8; ROOM], len: usize, fault: usize) {
 }
 
 // Plays the sheet with this path and text.
-pub(crate) fn run(sheet: &[u8], text: &[u8]) {
+pub(crate) fn run(rt: &HostRuntime, sheet: &[u8], text: &[u8]) {
     let fixed = rom();
-    let mut out = [0u8; ROOM];
+    let mut out = Output::new(rt.stdout());
     let unread = text_fault(text);
     if unread != 0 {
         put_sheet_fault(&mut out, 0, unread);
@@ -293,7 +292,7 @@ pub(crate) fn run(sheet: &[u8], text: &[u8]) {
     let header = read_header_row(text, &mut out, 0);
     let fault = header_fault(header, text);
     if fault == 0 {
-        let totals = play_rows(header, sheet, text, &fixed, &mut out);
+        let totals = play_rows(rt, header, sheet, text, &fixed, &mut out);
         finish(totals, &mut out);
         return;
     }

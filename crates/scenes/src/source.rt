@@ -7,7 +7,7 @@ use cartridge_header::{HeaderRead, read_header};
 use cartridge_report::put_refusal;
 use memory_layout::MemoryLayout;
 use scene_paths::{name_in, path_of};
-use text_output::{ROOM, put};
+use text_output::{Output, put};
 use vrc6_banking::banking::{Mirroring, Revision};
 
 // The bytes that a path may have.
@@ -66,27 +66,27 @@ fn source_in(bytes: &[u8; LONGEST], n: usize) -> Source {
     }
 }
 
-fn source_at(path: &[u8]) -> Source {
+fn source_at(rt: &HostRuntime, path: &[u8]) -> Source {
     let mut bytes = [0u8; LONGEST];
-    match read_file(path, &mut bytes) {
+    match read_file(rt, path, &mut bytes) {
         FileRead::Bytes(n) => source_in(&bytes, n),
-        FileRead::Failed => unfiled(UNREAD),
+        FileRead::Failed(_) => unfiled(UNREAD),
     }
 }
 
 // The file that a cell of a sheet names.
-fn source_named(sheet: &[u8], cell: &[u8], quoted: bool) -> Source {
+fn source_named(rt: &HostRuntime, sheet: &[u8], cell: &[u8], quoted: bool) -> Source {
     let mut path = [0u8; MOST_PATH];
     let n = path_of(sheet, cell, quoted, &mut path);
     if MOST_PATH < n {
         return unfiled(UNREAD);
     }
     let all: &[u8] = &path;
-    source_at(&all[0..n])
+    source_at(rt, &all[0..n])
 }
 
 // The row's source. A relative name is taken from the sheet's folder.
-pub(crate) fn source_of(sheet: &[u8], text: &[u8], starts: Starts) -> Source {
+pub(crate) fn source_of(rt: &HostRuntime, sheet: &[u8], text: &[u8], starts: Starts) -> Source {
     let span = cell_in(text, starts, FILE);
     let from = span.from;
     let to = span.to;
@@ -95,12 +95,12 @@ pub(crate) fn source_of(sheet: &[u8], text: &[u8], starts: Starts) -> Source {
     if name.from == name.to {
         return unfiled(0);
     }
-    source_named(sheet, cell, span.quoted)
+    source_named(rt, sheet, cell, span.quoted)
 }
 
 // A fault of the file, by the name that the cell has.
 pub(crate) fn put_source(
-    out: &mut [u8; ROOM],
+    out: &mut Output,
     len: usize,
     text: &[u8],
     starts: Starts,

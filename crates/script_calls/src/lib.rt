@@ -1,5 +1,6 @@
 // The call of the board that a line makes.
 #![tactic(auto)]
+
 ghost use Rattle.std.specs.Prelude.{◌≡◌};
 ghost use Rattle.script_calls.specs.Calls.{call_of};
 

@@ -3,10 +3,10 @@ use crate::numbers::{
     CHR, COUNT, HALT, IRQ, NAMETABLES, PICTURE_PAGES, PULSE1, PULSE2, SAW, SINGLE,
 };
 use text_output::forms::put_form;
-use text_output::{ROOM, put_text};
+use text_output::{Output, put_text};
 
 // Page entries.
-fn put_pages(out: &mut [u8; ROOM], len: usize, name: &[u8], pages: &[u32]) -> usize {
+fn put_pages(out: &mut Output, len: usize, name: &[u8], pages: &[u32]) -> usize {
     let mut n = put_text(out, len, name);
     let mut i: usize = 0;
     while i < pages.len() {
@@ -63,7 +63,7 @@ fn saw_shown(n: [u32; COUNT]) -> [u32; 9] {
     ]
 }
 
-fn put_sound(out: &mut [u8; ROOM], len: usize, numbers: [u32; COUNT]) -> usize {
+fn put_sound(out: &mut Output, len: usize, numbers: [u32; COUNT]) -> usize {
     let saw = saw_shown(numbers);
     let form = b" / %d %d %d %d %d %d %d %d";
     let a = put_text(out, len, b"DA");
@@ -72,7 +72,7 @@ fn put_sound(out: &mut [u8; ROOM], len: usize, numbers: [u32; COUNT]) -> usize {
     put_form(out, c, b" / %d %d %d %d %d %d %d / %d %w\n", &saw)
 }
 
-pub fn dump(out: &mut [u8; ROOM], len: usize, numbers: [u32; COUNT]) -> usize {
+pub fn dump(out: &mut Output, len: usize, numbers: [u32; COUNT]) -> usize {
     let banking = banking_shown(numbers);
     let a = put_pages(out, len, b"DP", &numbers[0..PICTURE_PAGES]);
     let b = put_pages(out, a, b"DC", &numbers[PICTURE_PAGES..CHR]);
@@ -108,7 +108,7 @@ fn registers_shown(n: [u32; COUNT]) -> [u32; 16] {
     ]
 }
 
-pub fn put_registers(out: &mut [u8; ROOM], len: usize, numbers: [u32; COUNT]) -> usize {
+pub fn put_registers(out: &mut Output, len: usize, numbers: [u32; COUNT]) -> usize {
     let shown = registers_shown(numbers);
     put_form(
         out,

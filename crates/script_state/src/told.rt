@@ -4,7 +4,7 @@ use base_floats::pattern::bits_of;
 use script_lines::arguments::NONE;
 use script_lines::values;
 use text_output::forms::{put_form, put_nth_form};
-use text_output::{ROOM, put};
+use text_output::{Output, put};
 use vrc6::board::Forecast;
 use vrc6_calls::Answer;
 
@@ -162,7 +162,7 @@ fn numbers_told(what: u8, told: Told, pending: u32) -> [u32; 5] {
 }
 
 // A call's answer, by the place of its name.
-pub fn put_answer(out: &mut [u8; ROOM], len: usize, what: u8, told: Told, pending: u32) -> usize {
+pub fn put_answer(out: &mut Output, len: usize, what: u8, told: Told, pending: u32) -> usize {
     if told.refusal != 0 {
         let refusal = [told.refusal as u32];
         return put_form(out, len, b"refused %d\n", &refusal);

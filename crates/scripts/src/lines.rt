@@ -6,7 +6,7 @@ use crate::session::{NO_BOARD, NO_VALUE, Session};
 use crate::showing::put_shown;
 use script_lines::arguments::TOO_LARGE;
 use script_lines::{Line, kinds, parse, values};
-use text_output::ROOM;
+use text_output::Output;
 
 fn creates(what: u8) -> bool {
     (kinds::FILLED <= what) & (what <= kinds::CREATE)
@@ -91,7 +91,7 @@ pub fn play_line(
     given: Session,
     fixed: &mut [u8; FIXED],
     changing: &mut [u8; CHANGING],
-    out: &mut [u8; ROOM],
+    out: &mut Output,
     text: &[u8],
 ) -> Session {
     let line = parse(text);

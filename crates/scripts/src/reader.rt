@@ -1,4 +1,5 @@
 // The lines of an input, one after the other.
+use std::io::Read;
 use text_output::ROOM;
 use text_output::forms::until;
 
@@ -80,13 +81,14 @@ fn carry(input: &mut [u8; ROOM], from: usize, to: usize) -> usize {
 }
 
 // Reads behind the bytes that are held, and hands back how many there are then.
-fn read_more(fd: i32, input: &mut [u8], held: usize) -> usize {
+fn read_more<F: Read>(file: &mut F, input: &mut [u8], held: usize) -> usize {
     if input.len() < held {
         return held;
     }
     let room = input.len() - held;
-    let got = libc::read(fd, &mut input[held..]);
-    let n = io::count(got, &input[held..]);
+    let Ok(n) = file.read(&mut input[held..]) else {
+        return held;
+    };
     if n <= room {
         return held + n;
     }
@@ -94,7 +96,7 @@ fn read_more(fd: i32, input: &mut [u8], held: usize) -> usize {
 }
 
 // Takes the next line. A line that fills the buffer is too long. Each turn reads a byte or more, so there are turns enough.
-pub fn next_line(fd: i32, input: &mut [u8; ROOM], given: Reader) -> Reader {
+pub fn next_line<F: Read>(file: &mut F, input: &mut [u8; ROOM], given: Reader) -> Reader {
     let mut reader = given;
     let mut turns: usize = ROOM;
     while turns > 0 {
@@ -108,7 +110,7 @@ pub fn next_line(fd: i32, input: &mut [u8; ROOM], given: Reader) -> Reader {
             return reader.too_long();
         }
         reader.next = 0;
-        reader.held = read_more(fd, input, kept);
+        reader.held = read_more(file, input, kept);
         if reader.held == kept {
             return reader.last();
         }

@@ -8,7 +8,7 @@ use script_state::numbers::flag;
 use script_state::places::{number, same};
 use script_state::told::Told;
 use text_output::forms::put_nth_form;
-use text_output::{ROOM, put, put_text};
+use text_output::{Output, put, put_text};
 use text_words::next_word;
 use vrc6::Board;
 
@@ -100,7 +100,7 @@ fn form_of(what: u32, value: u32) -> usize {
     0
 }
 
-fn put_value(out: &mut [u8; ROOM], len: usize, what: u32, value: u32) -> usize {
+fn put_value(out: &mut Output, len: usize, what: u32, value: u32) -> usize {
     let numbers = [value];
     put_nth_form(
         out,
@@ -112,7 +112,7 @@ fn put_value(out: &mut [u8; ROOM], len: usize, what: u32, value: u32) -> usize {
 }
 
 // A word of the line.
-fn put_word_of(out: &mut [u8; ROOM], len: usize, line: &[u8], from: usize, to: usize) -> usize {
+fn put_word_of(out: &mut Output, len: usize, line: &[u8], from: usize, to: usize) -> usize {
     if from <= to {
         if to <= line.len() {
             return put_text(out, len, &line[from..to]);
@@ -122,7 +122,7 @@ fn put_word_of(out: &mut [u8; ROOM], len: usize, line: &[u8], from: usize, to: u
 }
 
 // The value's name and its place, as the line has them between its first and its last word.
-fn put_name(out: &mut [u8; ROOM], len: usize, line: &[u8]) -> usize {
+fn put_name(out: &mut Output, len: usize, line: &[u8]) -> usize {
     let first = next_word(line, 0);
     let name = next_word(line, first.to);
     let place = next_word(line, name.to);
@@ -136,7 +136,7 @@ fn put_name(out: &mut [u8; ROOM], len: usize, line: &[u8]) -> usize {
 }
 
 // Whether a row is right; a wrong one is found by the number of its line.
-fn put_verdict(out: &mut [u8; ROOM], len: usize, right: bool, number: u32) -> usize {
+fn put_verdict(out: &mut Output, len: usize, right: bool, number: u32) -> usize {
     let numbers = [number];
     put_nth_form(
         out,
@@ -148,7 +148,7 @@ fn put_verdict(out: &mut [u8; ROOM], len: usize, right: bool, number: u32) -> us
 }
 
 fn put_row(
-    out: &mut [u8; ROOM],
+    out: &mut Output,
     len: usize,
     line: &[u8],
     number: u32,
@@ -170,7 +170,7 @@ pub fn expect<'a>(
     session: Session,
     fixed: &'a [u8],
     changing: &'a [u8],
-    out: &mut [u8; ROOM],
+    out: &mut Output,
     line: &[u8],
     what: u32,
     at: u32,

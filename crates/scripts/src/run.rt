@@ -3,11 +3,12 @@ use crate::buffers::{CHANGING, FIXED};
 use crate::lines::play_line;
 use crate::reader::{Reader, next_line};
 use crate::session::{Session, TOO_LONG};
+use std::io::Read;
 use text_output::forms::{put_form, put_nth};
-use text_output::{ROOM, flush, put, put_text};
+use text_output::{Output, ROOM, flush, put, put_text};
 
 // What is wrong with a line, if anything, by its number: script_lines' seven, then this program's own.
-fn put_fault(out: &mut [u8; ROOM], len: usize, name: &[u8], line: u32, wrong: u8) -> usize {
+fn put_fault(out: &mut Output, len: usize, name: &[u8], line: u32, wrong: u8) -> usize {
     if wrong == 0 {
         return len;
     }
@@ -24,7 +25,7 @@ fn put_fault(out: &mut [u8; ROOM], len: usize, name: &[u8], line: u32, wrong: u8
 }
 
 // How many rows there were, if any, and how many are wrong.
-fn put_counts(out: &mut [u8; ROOM], len: usize, name: &[u8], rows: u32, wrong: u32) -> usize {
+fn put_counts(out: &mut Output, len: usize, name: &[u8], rows: u32, wrong: u32) -> usize {
     if rows == 0 {
         return len;
     }
@@ -34,7 +35,7 @@ fn put_counts(out: &mut [u8; ROOM], len: usize, name: &[u8], rows: u32, wrong: u
     put_form(out, b, b": %d rows, %d wrong\n", &numbers)
 }
 
-fn finish(session: Session, out: &mut [u8; ROOM], name: &[u8]) {
+fn finish(session: Session, out: &mut Output, name: &[u8]) {
     let a = put_fault(out, session.len, name, session.line, session.wrong);
     let b = put_counts(out, a, name, session.rows, session.wrong_rows);
     flush(out, b);
@@ -45,7 +46,7 @@ fn play_taken(
     session: Session,
     fixed: &mut [u8; FIXED],
     changing: &mut [u8; CHANGING],
-    out: &mut [u8; ROOM],
+    out: &mut Output,
     input: &[u8; ROOM],
     reader: Reader,
 ) -> Session {
@@ -65,13 +66,13 @@ fn play_taken(
 
 // A proved loop has to end, and nothing says that the input does: it counts its turns down from a number that no run
 // uses up.
-pub fn run(
-    fd: i32,
+pub fn run<F: Read>(
+    file: &mut F,
     name: &[u8],
     fixed: &mut [u8; FIXED],
     changing: &mut [u8; CHANGING],
     input: &mut [u8; ROOM],
-    out: &mut [u8; ROOM],
+    out: &mut Output,
     answers: bool,
     full: bool,
 ) {
@@ -80,7 +81,7 @@ pub fn run(
     let mut turns = u64::MAX;
     while turns > 0 {
         turns -= 1;
-        reader = next_line(fd, input, reader);
+        reader = next_line(file, input, reader);
         if reader.over | (session.wrong != 0) {
             finish(session, out, name);
             return;

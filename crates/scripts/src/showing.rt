@@ -7,11 +7,11 @@ use script_state::numbers::COUNT;
 use script_state::places::number;
 use script_state::told::put_answer;
 use text_output::forms::put_form;
-use text_output::{ROOM, put, put_text};
+use text_output::{Output, put, put_text};
 use text_words::next_word;
 
 // A heading: an empty line, and the text behind the first word.
-fn put_heading(out: &mut [u8; ROOM], len: usize, line: &[u8]) -> usize {
+fn put_heading(out: &mut Output, len: usize, line: &[u8]) -> usize {
     let first = next_word(line, 0);
     let text = next_word(line, first.to);
     let from = text.from;
@@ -25,7 +25,7 @@ fn short(n: usize) -> u32 {
 }
 
 // A creation's answer: the lengths of its buffers, or its refusal.
-fn put_created(out: &mut [u8; ROOM], len: usize, refusal: u8, lent: Lent) -> usize {
+fn put_created(out: &mut Output, len: usize, refusal: u8, lent: Lent) -> usize {
     if refusal != 0 {
         let number = [refusal as u32];
         return put_form(out, len, b"refused %d\n", &number);
@@ -35,13 +35,7 @@ fn put_created(out: &mut [u8; ROOM], len: usize, refusal: u8, lent: Lent) -> usi
 }
 
 // The hashes of the buffers.
-fn put_buffers(
-    out: &mut [u8; ROOM],
-    len: usize,
-    lent: Lent,
-    fixed: &[u8],
-    changing: &[u8],
-) -> usize {
+fn put_buffers(out: &mut Output, len: usize, lent: Lent, fixed: &[u8], changing: &[u8]) -> usize {
     let hashes = [
         lent_hash(fixed, lent.fixed),
         lent_hash(changing, lent.changing),
@@ -50,13 +44,7 @@ fn put_buffers(
 }
 
 // The answer of a line that has one.
-fn put_told(
-    session: Session,
-    fixed: &[u8],
-    changing: &[u8],
-    out: &mut [u8; ROOM],
-    what: u8,
-) -> usize {
+fn put_told(session: Session, fixed: &[u8], changing: &[u8], out: &mut Output, what: u8) -> usize {
     let numbers = session.numbers;
     let told = session.told;
     if what < kinds::FILLED {
@@ -73,7 +61,7 @@ fn put_told(
 }
 
 // The dump, where it is asked for.
-fn put_dump(out: &mut [u8; ROOM], len: usize, asked: bool, numbers: [u32; COUNT]) -> usize {
+fn put_dump(out: &mut Output, len: usize, asked: bool, numbers: [u32; COUNT]) -> usize {
     if asked {
         return dump(out, len, numbers);
     }
@@ -85,7 +73,7 @@ pub fn put_shown(
     session: Session,
     fixed: &[u8],
     changing: &[u8],
-    out: &mut [u8; ROOM],
+    out: &mut Output,
     text: &[u8],
     what: u8,
 ) -> usize {
