@@ -5,7 +5,7 @@ ghost use Rattle.std.specs.Prelude.{◌≤◌, length};
 ghost use Rattle.cartridge_files.specs.Files.{bytes_read};
 
 use std::fs::{Files, open};
-use std::io::{Eprint, Error, ErrorKind, Print, Read, Stderr};
+use std::io::{Error, ErrorKind, Print, Read, Stderr, Write};
 
 // The longest cartridge file that counts: header, trainer, and as much PRG and CHR as a board takes. A longer one is read so far,
 // which changes nothing that its header says.
@@ -60,10 +60,42 @@ pub fn open_read<R: Files>(rt: &R, path: &[u8]) -> Result<R::File, Error> {
     open(rt, text)
 }
 
+// What an error says, into a text, and how much of it that is.
+fn write_reason(text: &mut [u8], error: &Error) -> usize {
+    let room = text.len();
+    let mut rest: &mut [u8] = text;
+    let _ = write!(rest, "{error}");
+    room.saturating_sub(rest.len())
+}
+
+// The text up to the bracket with a number that an error of the system ends with, as ` (os error 2)`.
+fn without_number(text: &[u8], len: usize) -> usize {
+    let mut n = len;
+    while n > 0 {
+        n -= 1;
+        if n < text.len() {
+            if text[n] == b'(' {
+                if n > 0 {
+                    return n - 1;
+                }
+            }
+        }
+    }
+    len
+}
+
 // Says why a file can't be read.
 pub fn fail(stderr: Stderr, name: &[u8], error: Error) {
+    let mut space = [0u8; 512];
+    let n = write_reason(&mut space, &error);
+    let text: &[u8] = &space;
+    let end = without_number(text, n);
     let _ = stderr.write_all(name);
-    let _ = eprintln!(stderr; ": {error}");
+    let _ = stderr.write_all(b": ");
+    if end <= text.len() {
+        let _ = stderr.write_all(&text[0..end]);
+    }
+    let _ = stderr.write_all(b"\n");
 }
 
 // Fills the buffer from its start with the file's first bytes, and says how many they are.
