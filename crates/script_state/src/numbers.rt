@@ -13,7 +13,7 @@ use vrc6_banking::banking::Banking;
 pub const COUNT: usize = 142;
 
 // Where the numbers of each part begin: 64 entries, 16 entries, eight CHR bytes, four nametable numbers, five of the layout, ten of
-// each channel, then from `mode` to `open_bus` one for each value, in the order of their names (script_lines, `value_names`).
+// each channel, then from `mode` to `open-bus` one for each value, in the order of their names (script_lines, `value_names`).
 pub const PICTURE_PAGES: usize = 64;
 
 pub const CHR: usize = 80;

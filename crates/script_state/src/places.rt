@@ -18,7 +18,7 @@ fn place_of(what: u32, at: usize) -> usize {
     }
 }
 
-// A value of the board, from `entry` to `open_bus`.
+// A value of the board, from `entry` to `open-bus`.
 pub fn number(numbers: [u32; COUNT], what: u32, at: u32) -> u32 {
     numbers[place_of(what, at as usize) % COUNT]
 }

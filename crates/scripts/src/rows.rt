@@ -64,7 +64,7 @@ fn is_kept(session: Session, changing: &[u8]) -> bool {
     is_untouched(session, changing) & same(numbers, mark) & told.is_mute()
 }
 
-// A value of the board, from `entry` to `open_bus`, or of what the last call answered, by the place of its name.
+// A value of the board, from `entry` to `open-bus`, or of what the last call answered, by the place of its name.
 fn value_of(session: Session, what: u32, at: u32) -> u32 {
     let numbers = session.numbers;
     let told = session.told;
