@@ -77,13 +77,13 @@ fn take(rt: &HostRuntime, name: &[u8], options: Options) -> Options {
     options
 }
 
-// One that is longer than any path is passed over.
+// One that is longer than any path counts as empty.
 fn argument(rt: &HostRuntime, i: usize, options: Options) -> Options {
     let mut space = [0u8; 4096];
     let text: &mut [u8] = &mut space;
     match rt.arg(i, text) {
         Ok(n) => take(rt, &text[0..n], options),
-        Err(_) => options,
+        Err(_) => take(rt, b"", options),
     }
 }
 
