@@ -94,7 +94,9 @@ fn mirroring_of(word: &[u8]) -> Option<Mirroring> {
 }
 
 fn revision_of(word: &[u8]) -> Option<Revision> {
-    [Revision::A, Revision::B].get(place_in(b"A B", word)?).copied()
+    [Revision::A, Revision::B]
+        .get(place_in(b"A B", word)?)
+        .copied()
 }
 
 fn refusal_of(word: &[u8]) -> Option<Refusal> {

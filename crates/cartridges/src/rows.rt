@@ -68,7 +68,13 @@ fn play_lines(name: &[u8], text: &[u8], out: &mut Output) {
             player.play_line(i.saturating_add(1), line);
         }
     }
-    let Player { rows, wrong, bad, file: _, out } = player;
+    let Player {
+        rows,
+        wrong,
+        bad,
+        file: _,
+        out,
+    } = player;
     out.text(name);
     put!(out; ": {rows} rows, {wrong} wrong, {bad} bad lines\n");
 }
