@@ -1,5 +1,5 @@
 -- Examples of what the definitions give. Assumes nothing.
-use Rattle.std.specs.Prelude.{◌≡◌, true, false, Ok, Err}
+use Rattle.std.specs.Prelude.{◌≡◌, true, Ok, Err}
 use Rattle.text_words.specs.Names.{codes}
 use Rattle.script_lines.specs.declared.error.LineError.TheVariants as Fault
 use Rattle.script_lines.specs.declared.line.Bytes.TheVariants as Bytes
@@ -25,8 +25,8 @@ pub record LineExamples : Type 0 where
   pub read_bus : line_read (codes "B 5fff a0") ≡ Ok (Line.Call CallName.ReadBus 24_575 160)
   pub clocks : line_read (codes "C 0228") ≡ Ok (Line.Clock 228)
   pub create :
-    line_read (codes "N 0 1 w 2 3 4 B ff")
-        ≡ Ok (Line.Create (record { prg = 0; chr = 1; writable = true; ram = 2; ciram = 3; mirroring = 4; revision = 1; bytes = Bytes.Filled 255 }))
+      line_read (codes "N 0 1 w 2 3 4 B ff")
+      ≡ Ok (Line.Create (record { prg = 0; chr = 1; writable = true; ram = 2; ciram = 3; mirroring = 4; revision = 1; bytes = Bytes.Filled 255 }))
   pub layout_s : line_read (codes "S 1 A") ≡ Ok (Line.Create (layout_s 1 0))
   pub open_bus : line_read (codes "open-bus yes") ≡ Ok (Line.OpenBus true)
   pub lend : line_read (codes "lend changing 2047") ≡ Ok (Line.Lend Buffer.Changing 2_047)

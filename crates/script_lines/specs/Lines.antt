@@ -1,23 +1,18 @@
 -- What a line of a script says: its name by its place, its arguments by the form that the name has (oracle/FORMAT.md). Assumes nothing.
-use Rattle.std.specs.Prelude.{Bool, false, cond, List, [], ◌∷◌, ◌++◌, ℕ, zero, suc, ◌+◌, ◌-◌, eqb, length, get_or, Option, Some, None, Result, Ok, Err, unwrap_or, slice_get}
+use Rattle.std.specs.Prelude.{Bool, false, cond, List, [], ◌∷◌, ◌++◌, ℕ, zero, suc, ◌+◌, eqb, length, get_or, Option, Some, None, Result, Ok, Err, unwrap_or, slice_get}
 use Rattle.text_words.specs.Names.{byte_of_nth, codes, place_in, words_of}
 use Rattle.script_lines.specs.declared.error.LineError.{LineError}
 use Rattle.script_lines.specs.declared.error.LineError.TheVariants as Fault
 use Rattle.script_lines.specs.declared.line.Bytes.{Bytes}
-use Rattle.script_lines.specs.declared.line.Bytes.TheVariants as Bytes
 use Rattle.script_lines.specs.declared.line.Creation.{Creation}
 use Rattle.script_lines.specs.declared.line.Line.{Line}
-use Rattle.script_lines.specs.declared.line.Line.TheVariants as Line
 use Rattle.script_lines.specs.declared.line.Place.{Place}
 use Rattle.script_lines.specs.declared.names.CallName.TheVariants as CallName
 use Rattle.script_lines.specs.declared.names.Name.{Name}
-use Rattle.script_lines.specs.declared.names.Name.TheVariants as Name
 use Rattle.script_lines.specs.declared.values.AnswerValue.TheVariants as AnswerValue
 use Rattle.script_lines.specs.declared.values.BoardValue.TheVariants as BoardValue
 use Rattle.script_lines.specs.declared.values.Buffer.{Buffer}
-use Rattle.script_lines.specs.declared.values.Buffer.TheVariants as Buffer
 use Rattle.script_lines.specs.declared.values.Value.{Value}
-use Rattle.script_lines.specs.declared.values.Value.TheVariants as Value
 use Rattle.script_lines.specs.Readings.{Reading, largest, name_after, number_after, value_after}
 
 -- ---- names and forms

@@ -112,7 +112,8 @@ fn letter_in(forms: &[u8], place: usize, i: usize) -> u8
 fn letter_behind(place: usize, so_far: &[u32]) -> u8
     ensures { result ≡ letter_behind place so_far.now }
 {
-    let forms = b"a a ab ab a a ab ab a a k k - - - - ab ab d d ddwddmvx mv ddwddmv - - - ld n n y y t";
+    let forms =
+        b"a a ab ab a a ab ab a a k k - - - - ab ab d d ddwddmvx mv ddwddmv - - - ld n n y y t";
     let Some((value, more)) = so_far.split_first() else {
         return letter_in(forms, place, 0);
     };

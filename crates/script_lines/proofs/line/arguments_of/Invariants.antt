@@ -10,5 +10,5 @@ invariant-loop-i l =
       size : length l.arguments ≡ 8;
       left :
           arguments_behind l.place (8 - l.i) (take l.i l.arguments) (words_of l.words.text.now)
-              ≡ arguments_behind l.place 8 [] (words_of l.initial.words.text.now);
+          ≡ arguments_behind l.place 8 [] (words_of l.initial.words.text.now);
     }
