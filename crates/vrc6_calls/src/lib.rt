@@ -1,5 +1,5 @@
 // The calls of the board as values, and one function that plays them: what replaying a script, and every claim about lists
-// of calls, goes by.
+// of calls, goes by. Both buffers are parameters of their own: C lends them so, and a read borrows both while a write changes one.
 #![tactic(auto)]
 
 ghost use Rattle.std.specs.Prelude.{◌≡◌};
