@@ -10,7 +10,9 @@ use Rattle.text_words.specs.declared.number.Number.{Number}
 use Rattle.text_words.specs.declared.number.Number.TheVariants.{Value, NoNumber, TooLarge}
 use Rattle.text_words.specs.Numbers.{are_digits, limited, number_of, value_of}
 use Rattle.scene_cells.specs.Marks.{from_mark, before_mark, behind_mark}
-use Rattle.scene_steps.specs.declared.step.Step.TheVariants.{Wrong}
+use Rattle.std.proofs.Common.{Err}
+use Rattle.scene_steps.specs.declared.step.StepError.{StepError}
+use Rattle.scene_steps.specs.declared.step.StepError.TheVariants.{NoAddress, LargeAddress, NoByte, LargeByte, NoClocks, ManyClocks, NoStep}
 use Rattle.scene_steps.specs.Laws.{Said, SaidLaw}
 use Rattle.scene_steps.specs.Steps.{byte_from, clocks_from, hex_of, is_reset, step_of, write_from}
 
@@ -29,29 +31,30 @@ below base limit [] = tt
 below base limit (b ∷ bs) =
     either (Below limit) (are_digits base (b ∷ bs)) (limited_below limit (value_of base (b ∷ bs))) tt
 
-wrong : (n : ℕ) → n ≤ 255 → Said (Wrong n)
-wrong n h = record { in_range = omega arith; wait = omega arith }
+-- what is no step asks nothing
+wrong : (e : StepError) → Said (Err e)
+wrong e = record { in_range = tt; wait = tt }
 
 clocks_said : (n : Number) → Below 1_000_000 n → Said (clocks_from n)
 clocks_said (Value n) h = record { in_range = omega arith; wait = h }
-clocks_said NoNumber h = wrong 5 (omega arith)
-clocks_said TooLarge h = wrong 6 (omega arith)
+clocks_said NoNumber h = wrong NoClocks
+clocks_said TooLarge h = wrong ManyClocks
 
 byte_said : (a : ℕ) (n : Number) → Said (byte_from a n)
 byte_said a (Value v) = record { in_range = (omega arith, omega arith); wait = omega arith }
-byte_said a NoNumber = wrong 3 (omega arith)
-byte_said a TooLarge = wrong 4 (omega arith)
+byte_said a NoNumber = wrong NoByte
+byte_said a TooLarge = wrong LargeByte
 
 write_said : (a b : Number) → Said (write_from a b)
 write_said (Value a) b = byte_said a b
-write_said NoNumber b = wrong 1 (omega arith)
-write_said TooLarge b = wrong 2 (omega arith)
+write_said NoNumber b = wrong NoAddress
+write_said TooLarge b = wrong LargeAddress
 
 pub said_law : SaidLaw
 unfolding step_of
 said_law w =
     either Said (is_reset w) (record { in_range = tt; wait = omega arith })
-    (either Said (eqb (length w) 0) (wrong 7 (omega arith))
+    (either Said (eqb (length w) 0) (wrong NoStep)
     (either Said (eqb (get_or w 0 0) 43) (clocks_said (number_of 10 1_000_000 (drop 1 w)) (below 10 1_000_000 (drop 1 w)))
-    (either Said (eqb (length (from_mark 61 w)) 0) (wrong 7 (omega arith))
+    (either Said (eqb (length (from_mark 61 w)) 0) (wrong NoStep)
     (write_said (hex_of 65_535 (before_mark 61 w)) (hex_of 255 (behind_mark 61 w))))))

@@ -11,55 +11,54 @@ pub const LAST_LINE: u32 = 261;
 
 pub const LAST_DOT: u32 = 340;
 
-// What is wrong with a cell.
-pub const NO_LINE: u8 = 1;
-
-pub const NO_DOT: u8 = 2;
-
-pub const MANY_WORDS: u8 = 3;
-
-#[derive(Clone, Copy)]
+#[derive(Clone, Copy, PartialEq, Eq)]
 pub enum At {
     // The cell is blank.
     Unsaid,
     Line(u32),
     Dot(u32, u32),
-    // The number says what is wrong.
-    Wrong(u8),
 }
 
-fn line_from(line: Number) -> At
+// Why a cell says no place.
+#[derive(Clone, Copy, PartialEq, Eq)]
+pub enum AtError {
+    NoLine,
+    NoDot,
+    ManyWords,
+}
+
+fn line_from(line: Number) -> Result<At, AtError>
     ensures { result ≡ at_line line }
 {
     match line {
-        Number::Value(n) => At::Line(n),
-        Number::NoNumber => At::Wrong(NO_LINE),
-        Number::TooLarge => At::Wrong(NO_LINE),
+        Number::Value(n) => Ok(At::Line(n)),
+        Number::NoNumber => Err(AtError::NoLine),
+        Number::TooLarge => Err(AtError::NoLine),
     }
 }
 
-fn dot_from(line: u32, dot: Number) -> At
+fn dot_from(line: u32, dot: Number) -> Result<At, AtError>
     ensures { result ≡ dot_from line dot }
 {
     match dot {
-        Number::Value(n) => At::Dot(line, n),
-        Number::NoNumber => At::Wrong(NO_DOT),
-        Number::TooLarge => At::Wrong(NO_DOT),
+        Number::Value(n) => Ok(At::Dot(line, n)),
+        Number::NoNumber => Err(AtError::NoDot),
+        Number::TooLarge => Err(AtError::NoDot),
     }
 }
 
-fn line_and_dot(line: Number, dot: Number) -> At
+fn line_and_dot(line: Number, dot: Number) -> Result<At, AtError>
     ensures { result ≡ line_and_dot line dot }
 {
     match line {
         Number::Value(n) => dot_from(n, dot),
-        Number::NoNumber => At::Wrong(NO_LINE),
-        Number::TooLarge => At::Wrong(NO_LINE),
+        Number::NoNumber => Err(AtError::NoLine),
+        Number::TooLarge => Err(AtError::NoLine),
     }
 }
 
 // What a word says.
-pub fn at_of(word: &[u8]) -> At
+pub fn at_of(word: &[u8]) -> Result<At, AtError>
     ensures { result ≡ at_of word.now }
 {
     let mark = place_of(word, b':');
@@ -72,18 +71,18 @@ pub fn at_of(word: &[u8]) -> At
 }
 
 // What a cell says by its only word.
-pub fn at_in(cell: &[u8]) -> At
+pub fn at_in(cell: &[u8]) -> Result<At, AtError>
     ensures { result ≡ at_in cell.now }
 {
     let word = next_word(cell, 0);
     let from = word.from;
     let to = word.to;
     if from == to {
-        return At::Unsaid;
+        return Ok(At::Unsaid);
     }
     let more = next_word(cell, to);
     if more.from != more.to {
-        return At::Wrong(MANY_WORDS);
+        return Err(AtError::ManyWords);
     }
     at_of(&cell[from..to])
 }
