@@ -1,7 +1,6 @@
 -- A step's number keeps the step, every word's step has such a number, and examples of what the definitions give. Assumes nothing.
 use Rattle.std.specs.Prelude.{◌≡◌, Result, Ok, Err, IfOk, List, ℕ, ◌≤◌, ◌<◌}
 use Rattle.text_words.specs.Names.{codes}
-use Rattle.scene_steps.specs.declared.letters.Pair.{Pair}
 use Rattle.scene_steps.specs.declared.letters.PairError.TheVariants.{NoPair, NoSlot, NoBank}
 use Rattle.scene_steps.specs.declared.picture.At.{At}
 use Rattle.scene_steps.specs.declared.picture.AtError.TheVariants.{NoLine, NoDot, ManyWords}
@@ -9,7 +8,8 @@ use Rattle.scene_steps.specs.declared.picture.At.TheVariants.{Unsaid, Line, Dot}
 use Rattle.scene_steps.specs.declared.step.Step.{Step}
 use Rattle.scene_steps.specs.declared.step.Step.TheVariants.{Write, Clocks, Reset}
 use Rattle.scene_steps.specs.declared.step.StepError.{StepError}
-use Rattle.scene_steps.specs.declared.step.StepError.TheVariants.{NoAddress, LargeAddress, NoByte, LargeByte, NoClocks, ManyClocks, NoStep}
+use Rattle.scene_steps.specs.declared.step.StepError.TheVariants.{BadAddress, BadByte, BadClocks, NoStep}
+use Rattle.text_words.specs.declared.number.NumberError.TheVariants.{NoNumber, TooLarge}
 use Rattle.scene_steps.specs.Letters.{pair_of}
 use Rattle.scene_steps.specs.Picture.{at_in}
 use Rattle.scene_steps.specs.Steps.{code_of, step_coded, step_of, wait_of}
@@ -50,20 +50,20 @@ pub record StepExamples : Type 0 where
   pub dollars : step_of (codes "$F000=$FE") ≡ Ok (Write 0xF000 0xFE)
   pub prefixed : step_of (codes "0xF000=0XFE") ≡ Ok (Write 0xF000 0xFE)
   pub mixed : step_of (codes "0f000=$fe") ≡ Ok (Write 0xF000 0xFE)
-  pub no_digits : step_of (codes "$=12") ≡ Err NoAddress
-  pub no_digits_behind : step_of (codes "F000=0x") ≡ Err NoByte
-  pub two_prefixes : step_of (codes "$0xF000=12") ≡ Err NoAddress
+  pub no_digits : step_of (codes "$=12") ≡ Err (BadAddress NoNumber)
+  pub no_digits_behind : step_of (codes "F000=0x") ≡ Err (BadByte NoNumber)
+  pub two_prefixes : step_of (codes "$0xF000=12") ≡ Err (BadAddress NoNumber)
   pub clocks : step_of (codes "+114") ≡ Ok (Clocks 114)
-  pub hexadecimal_clocks : step_of (codes "+$10") ≡ Err NoClocks
+  pub hexadecimal_clocks : step_of (codes "+$10") ≡ Err (BadClocks NoNumber)
   pub reset : step_of (codes "reset") ≡ Ok Reset
   pub capital : step_of (codes "Reset") ≡ Ok Reset
   pub no_reset : step_of (codes "resets") ≡ Err NoStep
-  pub no_address : step_of (codes "D00G=12") ≡ Err NoAddress
-  pub large_address : step_of (codes "10000=12") ≡ Err LargeAddress
-  pub no_byte : step_of (codes "D000=1G") ≡ Err NoByte
-  pub large_byte : step_of (codes "D000=100") ≡ Err LargeByte
-  pub no_clocks : step_of (codes "+x") ≡ Err NoClocks
-  pub many_clocks : step_of (codes "+1000001") ≡ Err ManyClocks
+  pub no_address : step_of (codes "D00G=12") ≡ Err (BadAddress NoNumber)
+  pub large_address : step_of (codes "10000=12") ≡ Err (BadAddress TooLarge)
+  pub no_byte : step_of (codes "D000=1G") ≡ Err (BadByte NoNumber)
+  pub large_byte : step_of (codes "D000=100") ≡ Err (BadByte TooLarge)
+  pub no_clocks : step_of (codes "+x") ≡ Err (BadClocks NoNumber)
+  pub many_clocks : step_of (codes "+1000001") ≡ Err (BadClocks TooLarge)
   pub no_step : step_of (codes "foo") ≡ Err NoStep
   pub letter : pair_of (codes "3:17") ≡ Ok (record { slot = 3; bank = 17 })
   pub no_pair : pair_of (codes "17") ≡ Err NoPair

@@ -1,8 +1,7 @@
 -- The pairs of the letters' cell, as its words write them, and whether slots show what is asked (docs/SCENES.md). Assumes nothing.
-use Rattle.std.specs.Prelude.{Option, Some, None, Result, Ok, Err, true, false, [], ◌∷◌, Bool, cond, ◌&&◌, List, ℕ, eqb, length}
+use Rattle.std.specs.Prelude.{Option, Some, None, Result, Ok, Err, true, false, Bool, cond, List, ℕ, eqb, length}
 use Rattle.std.specs.List.{list_all, zip}
-use Rattle.text_words.specs.declared.number.Number.{Number}
-use Rattle.text_words.specs.declared.number.Number.TheVariants.{Value, NoNumber, TooLarge}
+use Rattle.text_words.specs.declared.number.NumberError.{NumberError}
 use Rattle.text_words.specs.Numbers.{number_of}
 use Rattle.scene_cells.specs.Marks.{from_mark, before_mark, behind_mark}
 use Rattle.scene_steps.specs.declared.letters.Pair.{Pair}
@@ -10,16 +9,14 @@ use Rattle.scene_steps.specs.declared.letters.PairError.{PairError}
 use Rattle.scene_steps.specs.declared.letters.PairError.TheVariants.{NoPair, NoSlot, NoBank}
 
 -- the number behind `:`, with the slot before it
-abbrev pub bank_from : (slot : ℕ) → Number → Result Pair PairError
-bank_from slot (Value n) = Ok (record { slot = slot; bank = n })
-bank_from slot NoNumber = Err NoBank
-bank_from slot TooLarge = Err NoBank
+abbrev pub bank_from : (slot : ℕ) → Result ℕ NumberError → Result Pair PairError
+bank_from slot (Ok n) = Ok (record { slot = slot; bank = n })
+bank_from slot (Err e) = Err NoBank
 
 -- the two numbers around `:`
-abbrev pub pair_from : (slot bank : Number) → Result Pair PairError
-pair_from (Value n) bank = bank_from n bank
-pair_from NoNumber bank = Err NoSlot
-pair_from TooLarge bank = Err NoSlot
+abbrev pub pair_from : (slot bank : Result ℕ NumberError) → Result Pair PairError
+pair_from (Ok n) bank = bank_from n bank
+pair_from (Err e) bank = Err NoSlot
 
 -- what a word says: a slot of 0 to 7 and a bank of 0 to 255, both decimal, or what is wrong with it
 unfoldable pub pair_of : List ℕ → Result Pair PairError

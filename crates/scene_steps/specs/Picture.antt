@@ -1,7 +1,6 @@
 -- Where in the picture the writes end, as the cell `at` says it (docs/SCENES.md). Assumes nothing.
 use Rattle.std.specs.Prelude.{Result, Ok, Err, cond, List, ℕ, eqb, length}
-use Rattle.text_words.specs.declared.number.Number.{Number}
-use Rattle.text_words.specs.declared.number.Number.TheVariants.{Value, NoNumber, TooLarge}
+use Rattle.text_words.specs.declared.number.NumberError.{NumberError}
 use Rattle.text_words.specs.Numbers.{number_of}
 use Rattle.text_words.specs.Words.{from_word, is_empty, past_word, word_of}
 use Rattle.scene_cells.specs.Marks.{from_mark, before_mark, behind_mark}
@@ -11,22 +10,19 @@ use Rattle.scene_steps.specs.declared.picture.AtError.{AtError}
 use Rattle.scene_steps.specs.declared.picture.AtError.TheVariants.{NoLine, NoDot, ManyWords}
 
 -- a line alone (docs/SCENES.md)
-abbrev pub at_line : Number → Result At AtError
-at_line (Value line) = Ok (Line line)
-at_line NoNumber = Err NoLine
-at_line TooLarge = Err NoLine
+abbrev pub at_line : Result ℕ NumberError → Result At AtError
+at_line (Ok line) = Ok (Line line)
+at_line (Err e) = Err NoLine
 
 -- the number behind `:`, with the line before it (docs/SCENES.md)
-abbrev pub dot_from : (line : ℕ) → Number → Result At AtError
-dot_from line (Value dot) = Ok (Dot line dot)
-dot_from line NoNumber = Err NoDot
-dot_from line TooLarge = Err NoDot
+abbrev pub dot_from : (line : ℕ) → Result ℕ NumberError → Result At AtError
+dot_from line (Ok dot) = Ok (Dot line dot)
+dot_from line (Err e) = Err NoDot
 
 -- the two numbers around `:` (docs/SCENES.md)
-abbrev pub line_and_dot : (line dot : Number) → Result At AtError
-line_and_dot (Value line) dot = dot_from line dot
-line_and_dot NoNumber dot = Err NoLine
-line_and_dot TooLarge dot = Err NoLine
+abbrev pub line_and_dot : (line dot : Result ℕ NumberError) → Result At AtError
+line_and_dot (Ok line) dot = dot_from line dot
+line_and_dot (Err e) dot = Err NoLine
 
 -- what a word says: a line of 0 to 261, or a line and a dot of 0 to 340 behind `:`, decimal; or what is wrong with it (docs/SCENES.md)
 unfoldable pub at_of : List ℕ → Result At AtError

@@ -2,7 +2,7 @@
 ghost use Rattle.std.specs.Prelude.{◌≡◌, drop};
 ghost use Rattle.scene_steps.specs.Steps.{hex_of, prefix_length};
 
-use text_words::number::{Number, in_base};
+use text_words::number::{NumberError, in_base};
 
 // The digits behind the prefix.
 fn digits_of(word: &[u8]) -> &[u8]
@@ -16,7 +16,7 @@ fn digits_of(word: &[u8]) -> &[u8]
 }
 
 // The number of the digits, with or without a prefix.
-pub(crate) fn in_hex(word: &[u8], limit: u32) -> Number
+pub(crate) fn in_hex(word: &[u8], limit: u32) -> Result<u32, NumberError>
     ensures { result ≡ hex_of limit word.now }
 {
     in_base(digits_of(word), 16, limit)

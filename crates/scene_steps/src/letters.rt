@@ -1,9 +1,9 @@
 // A pair `slot:bank` of the letters' cell: the picture slot of 1 KiB, 0 to 7, and the bank that it must show; and whether slots do.
 ghost use Rattle.std.specs.Prelude.{◌≡◌};
-ghost use Rattle.scene_steps.specs.Letters.{bank_from, pair_from, pair_of, slot_right, slots_right};
+ghost use Rattle.scene_steps.specs.Letters.{pair_of, slot_right, slots_right};
 
-use scene_cells::marks::place_of;
-use text_words::number::{Number, in_base};
+use scene_cells::marks::split_once;
+use text_words::number::in_base;
 
 #[derive(Clone, Copy, PartialEq, Eq)]
 pub struct Pair {
@@ -19,37 +19,15 @@ pub enum PairError {
     NoBank,
 }
 
-fn bank_from(slot: u32, bank: Number) -> Result<Pair, PairError>
-    ensures { result ≡ bank_from slot bank }
-{
-    match bank {
-        Number::Value(n) => Ok(Pair { slot, bank: n }),
-        Number::NoNumber => Err(PairError::NoBank),
-        Number::TooLarge => Err(PairError::NoBank),
-    }
-}
-
-fn pair_from(slot: Number, bank: Number) -> Result<Pair, PairError>
-    ensures { result ≡ pair_from slot bank }
-{
-    match slot {
-        Number::Value(n) => bank_from(n, bank),
-        Number::NoNumber => Err(PairError::NoSlot),
-        Number::TooLarge => Err(PairError::NoSlot),
-    }
-}
-
 // What a word says.
+#[tactic(auto, unfolding(crate::specs::Letters::pair_of))]
 pub fn pair_of(word: &[u8]) -> Result<Pair, PairError>
     ensures { result ≡ pair_of word.now }
 {
-    let at = place_of(word, b':');
-    if at == word.len() {
-        return Err(PairError::NoPair);
-    }
-    let slot = in_base(&word[0..at], 10, 7);
-    let bank = in_base(&word[at + 1..], 10, 255);
-    pair_from(slot, bank)
+    let (slot, bank) = split_once(word, b':').ok_or(PairError::NoPair)?;
+    let slot = in_base(slot, 10, 7).map_err(|_| PairError::NoSlot)?;
+    let bank = in_base(bank, 10, 255).map_err(|_| PairError::NoBank)?;
+    Ok(Pair { slot, bank })
 }
 
 // Whether a slot shows the bank that was asked; where none was, it may show any.

@@ -1,11 +1,11 @@
 // A step of a scene: a CPU write `AAAA=BB`, clocks `+N`, or `reset`, capitals or not.
 ghost use Rattle.std.specs.Prelude.{◌≡◌};
-ghost use Rattle.scene_steps.specs.Steps.{byte_from, clocks_from, code_of, step_coded, step_of, write_from};
+ghost use Rattle.scene_steps.specs.Steps.{code_of, hex_of, step_coded, step_of, write_from};
 
 use crate::hex::in_hex;
-use scene_cells::marks::place_of;
+use scene_cells::marks::split_once;
 use text_words::names::same_name;
-use text_words::number::{Number, in_base};
+use text_words::number::{NumberError, in_base};
 
 // The most clocks of one step.
 pub const MOST_CLOCKS: u32 = 1000000;
@@ -21,65 +21,35 @@ pub enum Step {
 // Why a word is no step.
 #[derive(Clone, Copy, PartialEq, Eq)]
 pub enum StepError {
-    NoAddress,
-    LargeAddress,
-    NoByte,
-    LargeByte,
-    NoClocks,
-    ManyClocks,
+    BadAddress(NumberError),
+    BadByte(NumberError),
+    BadClocks(NumberError),
     NoStep,
 }
 
-fn clocks_from(count: Number) -> Result<Step, StepError>
-    ensures { result ≡ clocks_from count }
+// The limits leave an address of 16 bits and a byte of 8.
+fn write_of(address: &[u8], byte: &[u8]) -> Result<Step, StepError>
+    ensures { result ≡ write_from (hex_of 65535 address.now) (hex_of 255 byte.now) }
 {
-    match count {
-        Number::Value(n) => Ok(Step::Clocks(n)),
-        Number::NoNumber => Err(StepError::NoClocks),
-        Number::TooLarge => Err(StepError::ManyClocks),
-    }
-}
-
-fn with_byte(addr: u32, byte: Number) -> Result<Step, StepError>
-    ensures { result ≡ byte_from addr byte }
-{
-    match byte {
-        Number::Value(val) => Ok(Step::Write((addr % 65536) as u16, (val % 256) as u8)),
-        Number::NoNumber => Err(StepError::NoByte),
-        Number::TooLarge => Err(StepError::LargeByte),
-    }
-}
-
-fn write_from(address: Number, byte: Number) -> Result<Step, StepError>
-    ensures { result ≡ write_from address byte }
-{
-    match address {
-        Number::Value(addr) => with_byte(addr, byte),
-        Number::NoNumber => Err(StepError::NoAddress),
-        Number::TooLarge => Err(StepError::LargeAddress),
-    }
+    let addr = in_hex(address, 0xFFFF).map_err(StepError::BadAddress)?;
+    let val = in_hex(byte, 0xFF).map_err(StepError::BadByte)?;
+    Ok(Step::Write((addr % 65536) as u16, (val % 256) as u8))
 }
 
 // What a word says.
+#[tactic(auto, unfolding(crate::specs::Steps::step_of))]
 pub fn step_of(word: &[u8]) -> Result<Step, StepError>
     ensures { result ≡ step_of word.now }
 {
     if same_name(word, b"reset") {
         return Ok(Step::Reset);
     }
-    let at = place_of(word, b'=');
-    if word.len() == 0 {
-        return Err(StepError::NoStep);
+    if let [b'+', digits @ ..] = word {
+        let clocks = in_base(digits, 10, MOST_CLOCKS).map_err(StepError::BadClocks)?;
+        return Ok(Step::Clocks(clocks));
     }
-    if word[0] == b'+' {
-        return clocks_from(in_base(&word[1..], 10, MOST_CLOCKS));
-    }
-    if at == word.len() {
-        return Err(StepError::NoStep);
-    }
-    let address = in_hex(&word[0..at], 0xFFFF);
-    let byte = in_hex(&word[at + 1..], 0xFF);
-    write_from(address, byte)
+    let (address, byte) = split_once(word, b'=').ok_or(StepError::NoStep)?;
+    write_of(address, byte)
 }
 
 // A step as one number: its kind above 24 bits, what it carries below.

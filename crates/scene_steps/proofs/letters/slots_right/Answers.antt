@@ -1,5 +1,5 @@
 -- `slots_right` meets its contract. Assumes nothing.
-use Rattle.std.proofs.Common.{rules, tests}
+use Rattle.std.proofs.Common.{rules}
 use Rattle.std.proofs.lemmas.Iterator.{YieldsList-from_slice, YieldsList-from_zip}
 use Rattle.std.proofs.lemmas.Iterator.Search.{all_from_yields_List}
 use Rattle.scene_steps.specs.Letters.{slot_right}
