@@ -1,5 +1,5 @@
 -- The derived order of the marks is their rank's. Assumes nothing.
-use Rattle.std.proofs.Common.{◌≡◌, Bool, ltb, refl}
+use Rattle.std.proofs.Common.{◌≡◌, ltb, refl}
 use Rattle.std.specs.Ordering.{partial_lt}
 use Rattle.scene_moments.specs.contracts.verdict.MarkPartialOrd.TheImpl.{partial_cmp-value}
 use Rattle.scene_moments.specs.declared.verdict.Mark.{Mark}

@@ -8,7 +8,7 @@ use Rattle.irq_clocks.specs.Clocks.{irq_clocked_times}
 use Rattle.scene_steps.specs.declared.step.Step.{Step}
 use Rattle.scene_sweep.specs.declared.letters.Met.{Met}
 use Rattle.scene_sweep.specs.declared.runs.Sweep.{Sweep}
-use Rattle.scene_sweep.specs.Letters.{Meets, MetOf, holds_before, is_marked, meets, meets_in, met_with, one_met, step_at}
+use Rattle.scene_sweep.specs.Letters.{MetOf, holds_before, is_marked, meets, meets_in, met_with, one_met, step_at}
 
 -- ---- clocks at which a test holds
 module _ (at : ℕ → Bool) where

@@ -1,5 +1,5 @@
 -- A run of clocks with one verdict, one clock after the other. Assumes nothing.
-use Rattle.std.proofs.Common.{◌≡◌, ℕ, suc, ◌+◌, ◌-◌, ◌<◌, ◌≤◌, leb, List, sym, ap, ◌∙◌, subst, inl, inr, arith, leb-false, leb-true}
+use Rattle.std.proofs.Common.{◌≡◌, ℕ, suc, ◌+◌, ◌-◌, ◌<◌, ◌≤◌, leb, List, sym, ap, ◌∙◌, inl, inr, arith, leb-false, leb-true}
 use Rattle.base_shared.proofs.Tests.{tested}
 use Rattle.base_steps.specs.Times.{times}
 use Rattle.base_steps.proofs.Iterated.{times_add}

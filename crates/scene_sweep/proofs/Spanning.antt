@@ -1,5 +1,5 @@
 -- The span of the numbers of clocks, one clock after the other. Assumes nothing.
-use Rattle.std.proofs.Common.{◌≡◌, ℕ, ◌+◌, ◌<◌, ◌≤◌, min, max, Option, Some, None, leb, sym, subst, arith, leb-false, leb-true}
+use Rattle.std.proofs.Common.{◌≡◌, ℕ, ◌+◌, ◌<◌, ◌≤◌, min, max, Option, Some, None, leb, subst, arith, leb-false, leb-true}
 use Rattle.base_shared.proofs.Tests.{tested}
 use Rattle.scene_sweep.specs.declared.spans.Span.{Span}
 use Rattle.scene_sweep.specs.Spans.{Reached, SpanOf, spanned}

@@ -45,13 +45,7 @@ fn met_with(met: Option<Met>, marks: &[bool], k: u32, step: Option<usize>) -> Op
 impl Sweep {
     // Counts the clocks of a sweep at which the interrupt comes in a step of the menu that is marked, since it begins with wrong
     // letters.
-    pub fn letters_met(
-        self,
-        irq: VrcIrq,
-        clocks: u32,
-        menu: &[Step],
-        marks: &[bool],
-    ) -> Option<Met>
+    pub fn letters_met(self, irq: VrcIrq, clocks: u32, menu: &[Step], marks: &[bool]) -> Option<Met>
         ensures { MetOf self menu.now marks.now irq clocks result }
     {
         let mut met = None;

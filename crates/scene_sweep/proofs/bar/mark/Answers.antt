@@ -1,6 +1,5 @@
 -- `mark` meets its contract. Assumes nothing.
 use Rattle.std.proofs.Common.{arith, ltb-false, ltb-true, refl, sym, ◌∙◌}
-use Rattle.scene_moments.specs.Verdicts.{rank}
 use Rattle.scene_moments.proofs.Ranks.{ranked}
 use Rattle.scene_sweep.proofs.Marking.{none, stays, raised, marked_on}
 use Rattle.scene_sweep.proofs.bar.mark.Goals as goal
