@@ -6,8 +6,8 @@ ghost use Rattle.script_bytes.specs.Fill.{fill_byte, filled};
 pub fn fill_byte(offset: u32, seed: u32) -> u8
     ensures { result ≡ fill_byte offset seed }
 {
-    let x = ((offset as u64 * 0x9E37_79B1 + seed as u64) % 0x1_0000_0000) as u32;
-    let y = x ^ (x / 32768);
+    let x = offset.wrapping_mul(0x9E37_79B1).wrapping_add(seed);
+    let y = x ^ (x >> 15);
     (y / 256 % 256) as u8
 }
 
@@ -16,10 +16,8 @@ pub fn fill(part: &mut [u8], first: u32, seed: u32)
     ensures { part.new ≡ filled (length part.old) first seed }
 {
     let mut at = first;
-    let mut i: usize = 0;
-    while i < part.len() {
-        part[i] = fill_byte(at, seed);
-        at = std::num::wrapping_add_u32(at, 1);
-        i += 1;
+    for byte in part.iter_mut() {
+        *byte = fill_byte(at, seed);
+        at = at.wrapping_add(1);
     }
 }

@@ -1,12 +1,13 @@
 -- `fill` meets its contract. Assumes nothing.
-use Rattle.script_bytes.proofs.Filling.{none, more, done}
+use Rattle.std.proofs.Common.{◌≡◌, ℕ, ◌+◌, ◌%◌, ◌^◌, length, ap, ◌∙◌, arith}
+use Rattle.base_shared.specs.Lists.{tabulate}
+use Rattle.script_bytes.specs.Fill.{fill_byte}
+use Rattle.script_bytes.proofs.Filling.{each_of}
 use Rattle.script_bytes.proofs.fill.fill.Goals as goal
 
-pub loop-i-init : goal.loop-i-init
-loop-i-init c = none _ _ _ c.ranges.first.fits
-
-pub loop-i-preserved : goal.loop-i-preserved
-loop-i-preserved c = more _ _ _ _ _ _ c.loop-i.invariant _ _ c.loop-i-test.true c.fill_byte.ensures c.wrapping_add_u32-at.ensures.value
-
 pub returns : goal.returns
-returns c = done _ _ _ _ _ _ c.loop-i.invariant c.loop-i-test.false
+returns c =
+    let w = c.loop-byte in
+    let f : ℕ → ℕ = λ k. fill_byte ((c.args.first + k) % 2 ^ 32) c.args.seed in
+    let size : length w.part ≡ length c.args.part.now = omega arith in
+    each_of w.part f (λ k h. w.invariant.filled k (omega (arith, h))) ∙ ap (λ n. tabulate n f) size

@@ -1,0 +1,49 @@
+-- Refusals and their numbers. Assumes nothing.
+use mathlib.Core.Path.{◌≡◌, refl, sym, ap, ◌∙◌}
+use Prim.Native.Nat.{ℕ, zero, suc}
+use Rattle.std.specs.Prelude.{Result, Ok, Err, ⊤}
+use Rattle.base_shared.specs.declared.Refusal.{Refusal}
+use Rattle.base_shared.specs.declared.Refusal.TheVariants.{Limits, Lengths, Range, FirstPage, NoHeader, Mapper, FileLength}
+use Rattle.base_shared.specs.Numbers.{number, number_of}
+
+-- the refusal that has a number
+of_number : ℕ → Refusal
+of_number zero = Limits
+of_number (suc zero) = Limits
+of_number (suc (suc zero)) = Lengths
+of_number (suc (suc (suc zero))) = Range
+of_number (suc (suc (suc (suc zero)))) = FirstPage
+of_number (suc (suc (suc (suc (suc zero))))) = NoHeader
+of_number (suc (suc (suc (suc (suc (suc zero)))))) = Mapper
+of_number (suc (suc (suc (suc (suc (suc (suc n))))))) = FileLength
+
+has_its_number : (r : Refusal) → of_number (number r) ≡ r
+unfolding of_number
+has_its_number Limits = refl
+has_its_number Lengths = refl
+has_its_number Range = refl
+has_its_number FirstPage = refl
+has_its_number NoHeader = refl
+has_its_number Mapper = refl
+has_its_number FileLength = refl
+
+-- each refusal has a number of its own
+pub same_number : (r s : Refusal) → number r ≡ number s → r ≡ s
+same_number r s h = sym (has_its_number r) ∙ ap of_number h ∙ has_its_number s
+
+-- and none has the number 0
+pub never_zero : (r : Refusal) → number r ≡ 0 → ⊥
+never_zero Limits h = cc
+never_zero Lengths h = cc
+never_zero Range h = cc
+never_zero FirstPage h = cc
+never_zero NoHeader h = cc
+never_zero Mapper h = cc
+never_zero FileLength h = cc
+
+-- so the number says which answer it is, where the answer holds nothing else
+pub same_answer : (x y : Result ⊤ Refusal) → number_of x ≡ number_of y → x ≡ y
+same_answer (Ok a) (Ok b) h = refl
+same_answer (Ok a) (Err s) h = absurd (never_zero s (sym h))
+same_answer (Err r) (Ok b) h = absurd (never_zero r h)
+same_answer (Err r) (Err s) h = ap Err (same_number r s h)
