@@ -1,8 +1,7 @@
 // A file's bytes by its name.
 #![tactic(auto)]
 
-ghost use Rattle.std.specs.Prelude.{◌≤◌, length};
-ghost use Rattle.cartridge_files.specs.Files.{bytes_read};
+ghost use Rattle.std.specs.Prelude.{◌≤◌, length, IfOk};
 
 use std::fs::{Files, open};
 use std::io::{Error, ErrorKind, Print, Read, Stderr, Write};
@@ -11,45 +10,27 @@ use std::io::{Error, ErrorKind, Print, Read, Stderr, Write};
 // which changes nothing that its header says.
 pub const LONGEST: usize = 524816;
 
-#[derive(Drop)]
-pub enum FileRead {
-    Bytes(usize),
-    // why it can't be read
-    Failed(Error),
-}
-
-// Whether all was read: so much as fits, or up to the file's end. A read that fails looks like the end, but then one more read
-// fails too, or finds bytes.
-fn was_read<F: Read>(file: &mut F, n: usize) -> Result<bool, Error> {
-    if n == LONGEST {
-        return Ok(true);
-    }
-    let mut more = [0u8; 1];
-    Ok(file.read(&mut more)? == 0)
-}
-
-// Reads until the buffer is full, the file ends or a read fails, and says how many bytes stand at the buffer's start.
-pub fn read_full<F: Read>(file: &mut F, bytes: &mut [u8]) -> usize
-    ensures { result ≤ length bytes.new }
+// Reads until the buffer is full or the file ends, and hands back how many bytes stand at the buffer's start.
+fn fill<F: Read>(file: &mut F, bytes: &mut [u8]) -> Result<usize, Error>
+    ensures { IfOk result (λ n. n ≤ length bytes.new) }
 {
-    let mut done: usize = 0;
+    let mut done = 0;
     while done < bytes.len() {
-        let Ok(n) = file.read(&mut bytes[done..]) else {
-            break;
-        };
+        let n = file.read(&mut bytes[done..])?;
         if n == 0 {
             break;
         }
         done += n;
     }
-    done
+    Ok(done)
 }
 
-fn read_bytes<F: Read>(file: &mut F, bytes: &mut [u8; LONGEST]) -> usize
-    ensures { result ≤ 524816 }
+// The file's bytes, as many as fit.
+pub fn read_full<'a, F: Read>(file: &mut F, bytes: &'a mut [u8]) -> Result<&'a [u8], Error>
+    ensures { IfOk result (λ read. length read.now ≤ length bytes.old) }
 {
-    let all: &mut [u8] = bytes;
-    read_full(file, all)
+    let n = fill(file, bytes)?;
+    Ok(&bytes[..n])
 }
 
 // A path is UTF-8 text.
@@ -60,59 +41,34 @@ pub fn open_read<R: Files>(rt: &R, path: &[u8]) -> Result<R::File, Error> {
     open(rt, text)
 }
 
-// What an error says, into a text, and how much of it that is.
-fn write_reason(text: &mut [u8], error: &Error) -> usize {
-    let room = text.len();
-    let mut rest: &mut [u8] = text;
-    let _ = write!(rest, "{error}");
-    room.saturating_sub(rest.len())
+// The first bytes of the file.
+pub fn read_file<'a>(
+    rt: &impl Files,
+    path: &[u8],
+    bytes: &'a mut [u8; LONGEST],
+) -> Result<&'a [u8], Error>
+    ensures { IfOk result (λ read. length read.now ≤ 524816) }
+{
+    let mut file = open_read(rt, path)?;
+    read_full(&mut file, bytes)
 }
 
 // The text up to the bracket with a number that an error of the system ends with, as ` (os error 2)`.
-fn without_number(text: &[u8], len: usize) -> usize {
-    let mut n = len;
-    while n > 0 {
-        n -= 1;
-        if n < text.len() {
-            if text[n] == b'(' {
-                if n > 0 {
-                    return n - 1;
-                }
-            }
-        }
+fn without_number(text: &[u8]) -> &[u8] {
+    match text.iter().rposition(|byte| *byte == b'(') {
+        Some(n) if n > 0 => &text[..n - 1],
+        _ => text,
     }
-    len
 }
 
 // Says why a file can't be read.
 pub fn fail(stderr: Stderr, name: &[u8], error: Error) {
     let mut space = [0u8; 512];
-    let n = write_reason(&mut space, &error);
-    let text: &[u8] = &space;
-    let end = without_number(text, n);
-    let _ = stderr.write_all(name);
-    let _ = stderr.write_all(b": ");
-    if end <= text.len() {
-        let _ = stderr.write_all(&text[0..end]);
+    let mut rest: &mut [u8] = &mut space;
+    let _ = write!(rest, "{error}");
+    let end = 512usize.saturating_sub(rest.len());
+    let reason = without_number(&space[..end]);
+    for part in [name, b": ", reason, b"\n"] {
+        let _ = stderr.write_all(part);
     }
-    let _ = stderr.write_all(b"\n");
-}
-
-// Fills the buffer from its start with the file's first bytes, and says how many they are.
-pub fn read_file(rt: &impl Files, path: &[u8], bytes: &mut [u8; LONGEST]) -> FileRead
-    ensures { bytes_read result ≤ 524816 }
-{
-    let mut file = match open_read(rt, path) {
-        Ok(file) => file,
-        Err(error) => return FileRead::Failed(error),
-    };
-    let n = read_bytes(&mut file, bytes);
-    let whole = match was_read(&mut file, n) {
-        Ok(whole) => whole,
-        Err(error) => return FileRead::Failed(error),
-    };
-    if whole {
-        return FileRead::Bytes(n);
-    }
-    FileRead::Failed(Error::from(ErrorKind::Interrupted))
 }

@@ -1,15 +1,17 @@
 // The layout: how long each region is, which buffer it lies in and where it starts.
-ghost use Rattle.std.specs.Prelude.{◌≡◌, ◌+◌, ◌≤◌};
+ghost use Rattle.std.specs.Prelude.{◌≡◌, ◌≤◌, IfOk, IfSome, IsSome, IsTrue, ◌↔◌};
+ghost use Rattle.base_shared.specs.Numbers.{number_of};
 ghost use Rattle.base_shared.specs.Refusals.{first_failing};
 ghost use Rattle.memory_layout.specs.Entries.{entry_in_range};
 ghost use Rattle.memory_layout.specs.Required.{Limits};
 ghost use Rattle.memory_layout.specs.Layout.{changing_chr, changing_length, ciram_bytes, fixed_chr, fixed_length, layout_checks, lengths_fit, region, whole_pages, within_limits};
 
+use base_shared::Refusal;
 use memory_pages::Page;
 
 // Byte lengths as the cartridge states them.
 #[repr(C)]
-#[derive(Clone, Copy)]
+#[derive(Clone, Copy, Debug, PartialEq, Eq)]
 pub struct MemoryLayout {
     pub prg_rom: u32,
     pub chr: u32,
@@ -20,7 +22,7 @@ pub struct MemoryLayout {
 }
 
 // Which backing region a mapping refers to.
-#[derive(Clone, Copy)]
+#[derive(Clone, Copy, Debug, PartialEq, Eq)]
 pub enum Src {
     PrgRom,
     PrgRam,
@@ -29,11 +31,18 @@ pub enum Src {
 }
 
 // A region of the two buffers, its offsets counted from the fixed one on into the changing one.
-#[derive(Clone, Copy)]
+#[derive(Clone, Copy, Debug, PartialEq, Eq)]
 pub struct Region {
     pub start: u32,
     pub len: u32,
     pub writable: bool,
+}
+
+// A layout with no length above its limit. Only such a layout has lengths and regions.
+#[derive(Clone, Copy, Debug)]
+pub struct LimitedLayout {
+    pub layout: MemoryLayout,
+    ghost within: { Limits layout },
 }
 
 // Every region is a whole number of pages, so a wrapped offset always has a full page behind it.
@@ -54,93 +63,100 @@ impl MemoryLayout {
             & (self.ciram <= 4096)
     }
 
-    fn ciram_bytes(self) -> u32
-        requires { Limits self }
-        ensures { (result ≡ ciram_bytes self) × (result ≤ 4096) }
+    // The layout as one within its limits, if it is.
+    pub fn limited(self) -> Option<LimitedLayout>
+        ensures some { IsSome result ↔ IsTrue (within_limits self) }
+        ensures same { IfSome result (λ limited. limited.layout ≡ self) }
     {
-        if self.ciram == 0 {
-            return 2048;
+        if self.within_limits() {
+            Some(LimitedLayout { layout: self })
+        } else {
+            None
         }
-        self.ciram
+    }
+
+    // Conditions 1 and 2, for buffers of these lengths.
+    pub fn check(self, fixed: usize, changing: usize) -> Result<LimitedLayout, Refusal>
+        ensures number { number_of result ≡ first_failing (layout_checks self fixed changing) }
+        ensures same { IfOk result (λ limited. limited.layout ≡ self) }
+    {
+        let limited = self.limited().ok_or(Refusal::Limits)?;
+        if limited.lengths_fit(fixed, changing) {
+            Ok(limited)
+        } else {
+            Err(Refusal::Lengths)
+        }
+    }
+}
+
+impl LimitedLayout {
+    fn ciram_bytes(self) -> u32
+        ensures { (result ≡ ciram_bytes self.layout) × (result ≤ 4096) }
+    {
+        match self.layout.ciram {
+            0 => 2048,
+            given => given,
+        }
     }
 
     // What CHR takes of the fixed buffer.
     fn fixed_chr(self) -> u32
-        requires { Limits self }
-        ensures { (result ≡ fixed_chr self) × (result ≤ 262144) }
+        ensures { (result ≡ fixed_chr self.layout) × (result ≤ 262144) }
     {
-        if self.chr_writable {
+        if self.layout.chr_writable {
             return 0;
         }
-        whole_pages(self.chr)
+        whole_pages(self.layout.chr)
     }
 
     // What CHR takes of the changing buffer.
     fn changing_chr(self) -> u32
-        requires { Limits self }
-        ensures { (result ≡ changing_chr self) × (result ≤ 262144) }
+        ensures { (result ≡ changing_chr self.layout) × (result ≤ 262144) }
     {
-        if self.chr_writable {
-            return whole_pages(self.chr);
+        if self.layout.chr_writable {
+            return whole_pages(self.layout.chr);
         }
         0
     }
 
     // The length of the fixed buffer.
     pub fn fixed_length(self) -> u32
-        requires { Limits self }
-        ensures { (result ≡ fixed_length self) × (result ≤ 525312) }
+        ensures { (result ≡ fixed_length self.layout) × (result ≤ 525312) }
     {
-        1024 + whole_pages(self.prg_rom) + self.fixed_chr()
+        1024 + whole_pages(self.layout.prg_rom) + self.fixed_chr()
     }
 
     // The length of the changing buffer.
     pub fn changing_length(self) -> u32
-        requires { Limits self }
-        ensures { (result ≡ changing_length self) × (result ≤ 274432) }
+        ensures { (result ≡ changing_length self.layout) × (result ≤ 274432) }
     {
-        whole_pages(self.prg_ram) + self.changing_chr() + whole_pages(self.ciram_bytes())
+        whole_pages(self.layout.prg_ram) + self.changing_chr() + whole_pages(self.ciram_bytes())
     }
 
     // Whether buffers of these lengths are the layout's.
     pub fn lengths_fit(self, fixed: usize, changing: usize) -> bool
-        requires { Limits self }
-        ensures { result ≡ lengths_fit self fixed changing }
+        ensures { result ≡ lengths_fit self.layout fixed changing }
     {
         (fixed == self.fixed_length() as usize) & (changing == self.changing_length() as usize)
     }
 
-    // The first failing of conditions 1 and 2, for buffers of these lengths.
-    pub fn refusal(self, fixed: usize, changing: usize) -> u8
-        ensures { result ≡ first_failing (layout_checks self fixed changing) }
-    {
-        if self.within_limits() {
-            if self.lengths_fit(fixed, changing) {
-                return 0;
-            }
-            return 2;
-        }
-        1
-    }
-
     pub fn region(self, src: Src) -> Region
-        requires { Limits self }
-        ensures { result ≡ region self src }
+        ensures { result ≡ region self.layout src }
     {
         match src {
             Src::PrgRom => Region {
                 start: 1024,
-                len: whole_pages(self.prg_rom),
+                len: whole_pages(self.layout.prg_rom),
                 writable: false,
             },
             Src::PrgRam => Region {
                 start: self.fixed_length(),
-                len: whole_pages(self.prg_ram),
+                len: whole_pages(self.layout.prg_ram),
                 writable: true,
             },
             Src::Chr => self.chr_region(),
             Src::CiRam => Region {
-                start: self.fixed_length() + whole_pages(self.prg_ram) + self.changing_chr(),
+                start: self.fixed_length() + whole_pages(self.layout.prg_ram) + self.changing_chr(),
                 len: whole_pages(self.ciram_bytes()),
                 writable: true,
             },
@@ -149,19 +165,18 @@ impl MemoryLayout {
 
     // CHR lies behind PRG RAM if it takes writes, and behind PRG ROM if not.
     fn chr_region(self) -> Region
-        requires { Limits self }
-        ensures { result ≡ region self Src.Chr }
+        ensures { result ≡ region self.layout Src.Chr }
     {
-        let len = whole_pages(self.chr);
-        if self.chr_writable {
+        let len = whole_pages(self.layout.chr);
+        if self.layout.chr_writable {
             return Region {
-                start: self.fixed_length() + whole_pages(self.prg_ram),
+                start: self.fixed_length() + whole_pages(self.layout.prg_ram),
                 len,
                 writable: true,
             };
         }
         Region {
-            start: 1024 + whole_pages(self.prg_rom),
+            start: 1024 + whole_pages(self.layout.prg_rom),
             len,
             writable: false,
         }
@@ -169,8 +184,7 @@ impl MemoryLayout {
 
     // Whether an entry is one that a board of this layout can hold.
     pub fn entry_in_range(self, page: Page) -> bool
-        requires { Limits self }
-        ensures { result ≡ entry_in_range self page }
+        ensures { result ≡ entry_in_range self.layout page }
     {
         let fixed = self.fixed_length();
         let all = fixed + self.changing_length();

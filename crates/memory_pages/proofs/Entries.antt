@@ -5,7 +5,7 @@ use Prim.Native.Nat.{ℕ, ◌+◌, ◌*◌, ◌^◌, ◌<◌}
 use native.Mathlib.Omega.{arith}
 use borrow.Author.Tests.{eqb-true, eq-eqb, ne_eqb}
 use Rattle.memory_pages.specs.declared.page.Page.{Page}
-use Rattle.memory_pages.specs.declared.page.Lookup.TheVariants.{Unmapped, Mapped}
+use Rattle.std.specs.Prelude.{Some, None}
 use Rattle.memory_pages.specs.Pages.{entry, is_unmapped, offset, writable, spare, pages_on, serving}
 use Rattle.memory_pages.specs.Laws.{BitsLaw, EntryLaw, LookupLaw, PagesOnLaw}
 
@@ -41,6 +41,6 @@ bits_law = record { there = λ e. refl; back = λ n. refl }
 pub lookup_law : LookupLaw
 lookup_law e = go (is_unmapped e) refl
   where
-    go : (b : Bool) → is_unmapped e ≡ b → serving (cond b Unmapped (Mapped e)) ≡ e
+    go : (b : Bool) → is_unmapped e ≡ b → serving (cond b None (Some e)) ≡ e
     go true h = sym (ap (λ (n : ℕ). record { 0 = n }) (eqb-true e.0 0 h))
     go false h = refl

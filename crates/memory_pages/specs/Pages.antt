@@ -1,10 +1,8 @@
 -- A page entry: where in the buffers its 1,024 bytes begin, and whether they take writes. Other definitions touch an entry only through
 -- these (01, Records; memory.rs, Page). Assumes nothing.
-use Rattle.std.specs.Prelude.{Bool, cond, ℕ, ◌+◌, ◌*◌, ◌%◌, ◌^◌, eqb}
+use Rattle.std.specs.Prelude.{Bool, cond, Option, Some, None, ℕ, ◌+◌, ◌*◌, ◌%◌, ◌^◌, eqb}
 use Rattle.base_shared.specs.Bits.{bit}
 use Rattle.memory_pages.specs.declared.page.Page.{Page}
-use Rattle.memory_pages.specs.declared.page.Lookup.{Lookup}
-use Rattle.memory_pages.specs.declared.page.Lookup.TheVariants.{Unmapped, Mapped}
 
 -- the entry of an offset: bits 0 to 29 the offset, bit 31 writable (01, Records 3; memory.rs, Page::new)
 abbrev pub entry : (at : ℕ) → Bool → Page
@@ -43,10 +41,10 @@ abbrev pub page_of_bits : ℕ → Page
 page_of_bits n = record { 0 = n }
 
 -- what a lookup says of an entry: nothing is there if it is unmapped, and otherwise the entry
-abbrev pub found : Page → Lookup
-found e = cond (is_unmapped e) Unmapped (Mapped e)
+abbrev pub found : Page → Option Page
+found e = cond (is_unmapped e) None (Some e)
 
 -- the entry that a lookup stands for: the one that it found, or the unmapped one
-abbrev pub serving : Lookup → Page
-serving Unmapped = unmapped
-serving (Mapped e) = e
+abbrev pub serving : Option Page → Page
+serving None = unmapped
+serving (Some e) = e

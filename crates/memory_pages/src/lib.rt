@@ -6,4 +6,4 @@
 
 pub mod page;
 
-pub use page::{Lookup, Page};
+pub use page::Page;

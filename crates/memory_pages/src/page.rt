@@ -1,10 +1,10 @@
 // A page entry. It has a type of its own, so that it is never taken for an offset or a bank number.
 ghost use Rattle.std.specs.Prelude.{◌≡◌, ◌+◌, ◌*◌, ◌^◌, ◌<◌};
-ghost use Rattle.memory_pages.specs.Pages.{bits, entry, found, is_unmapped, page_of_bits, offset, pages_on, serving, spare, writable};
+ghost use Rattle.memory_pages.specs.Pages.{bits, entry, found, is_unmapped, page_of_bits, offset, pages_on, spare, writable};
 
 // Bits 0 to 29 hold an offset into the buffers, bit 31 says that the page takes writes, bit 30 is clear.
 #[repr(C)]
-#[derive(Clone, Copy)]
+#[derive(Clone, Copy, Debug, PartialEq, Eq)]
 pub struct Page(u32);
 
 impl Page {
@@ -54,45 +54,28 @@ impl Page {
         Page(self.0 + 1024 * n)
     }
 
-    // The entry as document 01 writes it: the offset in bits 0 to 29, writable in bit 31.
-    pub fn bits(self) -> u32
-        ensures { result ≡ bits self }
-    {
-        self.0
-    }
-
-    // The entry that document 01 writes so.
-    pub fn of_bits(bits: u32) -> Page
-        ensures { result ≡ page_of_bits bits }
-    {
-        Page(bits)
-    }
-
-    pub fn lookup(self) -> Lookup
+    // The entry, or None if it is unmapped, so that a caller can give that a meaning of its own.
+    pub fn lookup(self) -> Option<Page>
         ensures { result ≡ found self }
     {
-        if self.is_unmapped() {
-            return Lookup::Unmapped;
-        }
-        Lookup::Mapped(self)
+        if self.is_unmapped() { None } else { Some(self) }
     }
 }
 
-// What a lookup finds. An unmapped entry is told apart, so that a caller can give it a meaning of its own.
-#[derive(Clone, Copy)]
-pub enum Lookup {
-    Unmapped,
-    Mapped(Page),
+// The entry as document 01 writes it: the offset in bits 0 to 29, writable in bit 31.
+impl From<Page> for u32 {
+    ghost from_gives = { λ page n. n ≡ bits page };
+
+    fn from(page: Page) -> u32 {
+        page.0
+    }
 }
 
-impl Lookup {
-    // The entry found, or the unmapped one, which shows the fixed buffer's first page.
-    pub fn page(self) -> Page
-        ensures { result ≡ serving self }
-    {
-        match self {
-            Lookup::Unmapped => Page::UNMAPPED,
-            Lookup::Mapped(page) => page,
-        }
+// The entry that document 01 writes so.
+impl From<u32> for Page {
+    ghost from_gives = { λ n page. page ≡ page_of_bits n };
+
+    fn from(bits: u32) -> Page {
+        Page(bits)
     }
 }

@@ -1,55 +1,31 @@
--- Two names compared byte by byte. Assumes nothing.
-use mathlib.Core.Path.{◌≡◌, refl, sym, ap, ap₂, ◌∙◌}
-use mathlib.Core.Bool.{Bool, true, false, ◌&&◌}
-use mathlib.Core.List.{List, [], ◌∷◌}
-use Prim.Native.Nat.{ℕ, suc, ◌+◌, ◌≤◌, ◌<◌}
-use native.Mathlib.Omega.{arith}
-use borrow.Author.Tests.{eq-eqb, ne_eqb}
-use lib.Dec.{eqb}
-use lib.ListN.{length, drop, get_or, drop_of_length-le}
+-- Two names are equal where the library's test says so. Assumes nothing.
+use Rattle.std.proofs.Common.{◌≡◌, ℕ, Bool, true, false, ◌↔◌, IsTrue, List, [], ◌∷◌, map, refl, sym, ◌∙◌, arith, eq-eqb}
+use borrow.Author.Tests.{eqb-true}
+use Rattle.std.specs.Char.{to_ascii_lowercase}
+use Rattle.std.proofs.lemmas.Bool.Decides.{nat_tests}
+use Rattle.base_shared.proofs.Tests.{and_left, and_right, both, tested}
 use Rattle.text_words.specs.Names.{same_name, small}
-use Rattle.text_words.proofs.Spans.{from_byte}
 
-and_false : (t : Bool) {u : Bool} → false ≡ u → false ≡ (t && u)
-and_false true e = e
-and_false false e = refl
+lower : (b : ℕ) → small b ≡ to_ascii_lowercase b
+lower b = grind (arith, nat_tests)
 
--- names of two lengths
-pub other_length : (a b : List ℕ) → (length a ≡ length b → ⊥) → false ≡ same_name a b
-other_length [] [] n = absurd (n refl)
-other_length [] (y ∷ ys) n = refl
-other_length (x ∷ xs) [] n = refl
-other_length (x ∷ xs) (y ∷ ys) n = and_false (eqb (small x) (small y)) (other_length xs ys (λ e. n (ap suc e)))
+sound : (a b : List ℕ) → same_name a b ≡ true → map to_ascii_lowercase a ≡ map to_ascii_lowercase b
+sound [] [] e = refl
+sound [] (y ∷ ys) e = absurd (cc)
+sound (x ∷ xs) [] e = absurd (cc)
+sound (x ∷ xs) (y ∷ ys) e =
+    let h : small x ≡ small y = eqb-true (small x) (small y) (and_left _ _ e) in
+    (λ i. (sym (lower x) ∙ h ∙ lower y) i ∷ sound xs ys (and_right _ _ e) i)
 
--- the names are equal up to i
-pub record Alike (a b : List ℕ) (i : ℕ) : Type 0 where
-  pub within : i ≤ length a
-  pub size : length a ≡ length b
-  pub rest : same_name (drop i a) (drop i b) ≡ same_name a b
+complete : (a b : List ℕ) → map to_ascii_lowercase a ≡ map to_ascii_lowercase b → same_name a b ≡ true
+complete [] [] e = refl
+complete [] (y ∷ ys) e = absurd (cc)
+complete (x ∷ xs) [] e = absurd (cc)
+complete (x ∷ xs) (y ∷ ys) e =
+    let h : to_ascii_lowercase x ≡ to_ascii_lowercase y = cc in
+    let t : map to_ascii_lowercase xs ≡ map to_ascii_lowercase ys = cc in
+    both (eq-eqb (small x) (small y) (lower x ∙ h ∙ sym (lower y))) (complete xs ys t)
 
-pub begun : (a b : List ℕ) → length a ≡ length b → Alike a b 0
-begun a b e = record { within = omega arith; size = e; rest = refl }
-
-module _ (a b : List ℕ) (i : ℕ) (p : Alike a b i) where
-  module _ (k : i < length a) (x y : ℕ) (e : x ≡ small (get_or a i 0)) (f : y ≡ small (get_or b i 0)) where
-    here : same_name a b ≡ (eqb x y && same_name (drop (i + 1) a) (drop (i + 1) b))
-    here =
-        let m : i < length b = omega (arith, p.size) in
-        sym p.rest
-        ∙ ap₂ same_name (from_byte a i k) (from_byte b i m)
-        ∙ ap₂ (λ (v w : ℕ). eqb v w && same_name (drop (i + 1) a) (drop (i + 1) b)) (sym e) (sym f)
-
-    pub differs : (x ≡ y → ⊥) → false ≡ same_name a b
-    differs n = sym (here ∙ ap (λ (t : Bool). t && same_name (drop (i + 1) a) (drop (i + 1) b)) (ne_eqb x y n))
-
-    pub agrees : x ≡ y → Alike a b (i + 1)
-    agrees q = record {
-      within = omega arith;
-      size = p.size;
-      rest = sym (here ∙ ap (λ (t : Bool). t && same_name (drop (i + 1) a) (drop (i + 1) b)) (eq-eqb x y q));
-    }
-
-  pub finished : length a ≤ i → true ≡ same_name a b
-  finished h =
-      let m : length b ≤ i = omega (arith, p.size) in
-      ap₂ same_name (sym (drop_of_length-le a h)) (sym (drop_of_length-le b m)) ∙ p.rest
+pub same_by : (r : Bool) (a b : List ℕ) → (IsTrue r ↔ (map to_ascii_lowercase a ≡ map to_ascii_lowercase b)) → r ≡ same_name a b
+same_by true a b h = sym (complete a b (h.0 refl))
+same_by false a b h = tested (same_name a b) (λ e. h.1 (sound a b e) ∙ sym e) (λ e. sym e)

@@ -1,5 +1,5 @@
 -- Names: the words of a text, and which of them a word is, where a capital counts as its small letter. Assumes nothing.
-use Rattle.std.specs.Prelude.{Bool, true, false, cond, ◌&&◌, List, [], ◌∷◌, ℕ, zero, suc, ◌+◌, eqb, length, get_or}
+use Rattle.std.specs.Prelude.{Bool, true, false, cond, ◌&&◌, List, [], ◌∷◌, ℕ, zero, suc, ◌+◌, eqb, length, Option, option_and_then, position, slice_get}
 use Prim.Native.Char.{code}
 use Prim.Native.String.{String, [] as empty, ◌∷◌ as ◌before◌}
 use Rattle.text_words.specs.Numbers.{between}
@@ -30,19 +30,14 @@ same_name [] (y ∷ ys) = false
 same_name (x ∷ xs) [] = false
 same_name (x ∷ xs) (y ∷ ys) = eqb (small x) (small y) && same_name xs ys
 
--- the place of the first name that is equal, counted from `place`; the number behind the last place where none is
-abbrev pub place_from : (place : ℕ) → (name : List ℕ) → List (List ℕ) → ℕ
-place_from place name [] = place
-place_from place name (n ∷ ns) = cond (same_name name n) place (place_from (place + 1) name ns)
+-- the place of a name among the words of a text, from 0; none where it is none of them
+unfoldable pub place_in : (names name : List ℕ) → Option ℕ
+place_in names name = position (same_name name) (words_of names)
 
--- the place of a name among the words of a text, from 0; how many they are where it is none of them
-unfoldable pub place_in : (names name : List ℕ) → ℕ
-place_in names name = place_from 0 name (words_of names)
+-- the n-th word of a text, from 0; none where there are fewer
+unfoldable pub nth_word : (n : ℕ) → List ℕ → Option (List ℕ)
+nth_word n text = slice_get (words_of text) n
 
--- the n-th word of a text, from 0; no byte where there are fewer
-unfoldable pub nth_word : (n : ℕ) → List ℕ → List ℕ
-nth_word n text = get_or (words_of text) n []
-
--- a byte of the n-th word, from 0; 0 behind its end
-abbrev pub byte_of_nth : (n i : ℕ) → List ℕ → ℕ
-byte_of_nth n i text = get_or (nth_word n text) i 0
+-- a byte of the n-th word, from 0; none behind its end
+abbrev pub byte_of_nth : (n i : ℕ) → List ℕ → Option ℕ
+byte_of_nth n i text = option_and_then (λ w. slice_get w i) (nth_word n text)

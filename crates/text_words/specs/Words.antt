@@ -1,5 +1,5 @@
 -- A line's words: runs of bytes that are no blanks. Assumes nothing.
-use Rattle.std.specs.Prelude.{Bool, true, false, cond, ◌||◌, List, [], ◌∷◌, ℕ, ◌-◌, eqb, length, take}
+use Rattle.std.specs.Prelude.{Bool, true, false, cond, ◌||◌, List, [], ◌∷◌, ℕ, ◌-◌, eqb, length, take, Option, Some, None}
 use Rattle.std.specs.Bool.{beq}
 use Rattle.text_words.specs.Numbers.{between}
 
@@ -28,6 +28,6 @@ word_of s = take (length s - length (past_word s)) s
 abbrev pub is_empty : List ℕ → Bool
 is_empty text = eqb (length (word_of (from_word text))) 0
 
--- the only word of a text; no byte where it has none or several (docs/SCENES.md)
-abbrev pub only_word : List ℕ → List ℕ
-only_word text = cond (is_empty (past_word (from_word text))) (word_of (from_word text)) []
+-- the only word of a text; none where it has none or several (docs/SCENES.md)
+abbrev pub only_word : List ℕ → Option (List ℕ)
+only_word text = cond (is_empty text) None (cond (is_empty (past_word (from_word text))) (Some (word_of (from_word text))) None)

@@ -4,15 +4,15 @@
 pub mod names;
 pub mod number;
 
-ghost use Rattle.std.specs.Prelude.{◌≡◌, ◌≤◌, drop, length};
-ghost use Rattle.text_words.specs.Words.{is_blank, is_empty, only_word};
-ghost use Rattle.text_words.specs.Places.{FirstPlace, Found, WordAt};
+ghost use Rattle.std.specs.Prelude.{◌≡◌, ◌≤◌, true, drop, length, MatchOption, option_map};
+ghost use Rattle.text_words.specs.Found.{Found};
+ghost use Rattle.text_words.specs.Words.{from_first, is_blank, is_empty, only_word};
 
-// Where a word starts and ends; at the line's end there is none, and both are equal.
+// A word of a text, and the text behind it.
 #[derive(Clone, Copy)]
-pub struct Word {
-    pub from: usize,
-    pub to: usize,
+pub struct Word<'a> {
+    pub bytes: &'a [u8],
+    pub rest: &'a [u8],
 }
 
 // Space, tab and the line ends.
@@ -22,34 +22,33 @@ pub fn is_blank(byte: u8) -> bool
     (byte == b' ') | ((9 <= byte) & (byte <= 13))
 }
 
-// The first place from `from` on where a byte is a blank, or is none; the line's end where there is no such.
-pub fn place_of(line: &[u8], from: usize, blank: bool) -> usize
-    requires { from ≤ length line.now }
-    ensures { FirstPlace line.now from blank result }
+// How many bytes of a text stand before its first blank, or before its first byte that is none.
+fn before_first(text: &[u8], blank: bool) -> usize
+    ensures bound { result ≤ length text.now }
+    ensures cut { drop result text.now ≡ from_first blank text.now }
 {
-    let mut i = from;
-    while i < line.len() {
-        if is_blank(line[i]) == blank {
-            return i;
-        }
-        i += 1;
-    }
-    i
+    text.iter()
+        .position(|b| is_blank(*b) == blank)
+        .unwrap_or(text.len())
 }
 
-// The first word from `from` on.
-pub fn next_word(line: &[u8], from: usize) -> Word
-    ensures { Found line.now (drop from line.now) result.from result.to }
+// A text from its first blank on, or from its first byte on that is none.
+pub fn from_first(text: &[u8], blank: bool) -> &[u8]
+    ensures { result.now ≡ from_first blank text.now }
 {
-    let end = line.len();
-    if end <= from {
-        return Word { from: end, to: end };
-    }
-    let start = place_of(line, from, false);
-    let stop = place_of(line, start, true);
-    Word {
-        from: start,
-        to: stop,
+    &text[before_first(text, blank)..]
+}
+
+// The first word of a text.
+pub fn next_word(text: &[u8]) -> Option<Word<'_>>
+    ensures { MatchOption result (is_empty text.now ≡ true) (Found text.now) }
+{
+    let text = from_first(text, false);
+    let (bytes, rest) = text.split_at(before_first(text, true));
+    if bytes.is_empty() {
+        None
+    } else {
+        Some(Word { bytes, rest })
     }
 }
 
@@ -57,19 +56,17 @@ pub fn next_word(line: &[u8], from: usize) -> Word
 pub fn is_empty(text: &[u8]) -> bool
     ensures { result ≡ is_empty text.now }
 {
-    let word = next_word(text, 0);
-    word.from == word.to
+    next_word(text).is_none()
 }
 
-// The only word of a text; without a byte where it has none or several.
-pub fn only_word(text: &[u8]) -> Word
-    ensures { WordAt text.now (only_word text.now) result.from result.to }
+// The only word of a text; none where it has none or several.
+pub fn only_word(text: &[u8]) -> Option<&[u8]>
+    ensures { option_map (λ w. w.now) result ≡ only_word text.now }
 {
-    let word = next_word(text, 0);
-    let to = word.to;
-    let more = next_word(text, to);
-    if more.from == more.to {
-        return word;
+    let word = next_word(text)?;
+    if is_empty(word.rest) {
+        Some(word.bytes)
+    } else {
+        None
     }
-    Word { from: to, to }
 }

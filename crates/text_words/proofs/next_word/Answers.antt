@@ -1,9 +1,13 @@
 -- `next_word` meets its contract. Assumes nothing.
-use Rattle.text_words.proofs.Spans.{between, nothing}
+use Rattle.std.proofs.Common.{length, ap, sym, ◌∙◌}
+use Rattle.std.proofs.lemmas.Bool.{eqb-true, eqb-false}
+use Rattle.text_words.proofs.Cuts.{no_word, one_word}
 use Rattle.text_words.proofs.next_word.Goals as goal
 
-pub returns-then-end-from : goal.returns-then-end-from
-returns-then-end-from c = nothing _ _ c.if-end-from.true
+pub returns-then-is_empty : goal.returns-then-is_empty
+returns-then-is_empty c =
+    no_word c.args.text.now _ _ c.from_first-text.ensures (record { bound = c.before_first.ensures.bound; cut = c.before_first.ensures.cut }) (sym (ap length c.split_at.ensures.front) ∙ eqb-true _ 0 (sym c.is_empty.ensures ∙ c.if-is_empty.true))
 
-pub returns : goal.returns
-returns c = between _ _ _ _ c.place_of-start.ensures c.place_of-stop.ensures
+pub returns-else-is_empty : goal.returns-else-is_empty
+returns-else-is_empty c =
+    one_word c.args.text.now _ _ c.from_first-text.ensures (record { bound = c.before_first.ensures.bound; cut = c.before_first.ensures.cut }) _ c.split_at.ensures.front c.split_at.ensures.back (eqb-false _ 0 (sym c.is_empty.ensures ∙ c.if-is_empty.false))
