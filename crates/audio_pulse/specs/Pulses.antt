@@ -22,59 +22,19 @@ pulse_at f =
 
 -- p with another timer and step
 abbrev pub pulse_timed : (timer step : ℕ) → Pulse → Pulse
-pulse_timed t k p =
-    record {
-      enabled = p.enabled;
-      volume = p.volume;
-      duty_cycle = p.duty_cycle;
-      ignore_duty = p.ignore_duty;
-      frequency = p.frequency;
-      timer = t;
-      step = k;
-      freq_shift = p.freq_shift;
-    }
+pulse_timed t k p = record p { timer = t; step = k }
 
 -- p with another frequency
 abbrev pub pulse_tuned : (frequency : ℕ) → Pulse → Pulse
-pulse_tuned f p =
-    record {
-      enabled = p.enabled;
-      volume = p.volume;
-      duty_cycle = p.duty_cycle;
-      ignore_duty = p.ignore_duty;
-      frequency = f;
-      timer = p.timer;
-      step = p.step;
-      freq_shift = p.freq_shift;
-    }
+pulse_tuned f p = record p { frequency = f }
 
 -- p on or off; off, its step is back at the start (VRC6 audio)
 abbrev pub pulse_enabled : Bool → Pulse → Pulse
-pulse_enabled on p =
-    record {
-      enabled = on;
-      volume = p.volume;
-      duty_cycle = p.duty_cycle;
-      ignore_duty = p.ignore_duty;
-      frequency = p.frequency;
-      timer = p.timer;
-      step = cond on p.step 0;
-      freq_shift = p.freq_shift;
-    }
+pulse_enabled on p = record p { enabled = on; step = cond on p.step 0 }
 
 -- $9000, $A000: `MDDD VVVV`, M ignores duty, D duty, V volume (VRC6 audio)
 abbrev pub pulse_controlled : (val : ℕ) → Pulse → Pulse
-pulse_controlled v p =
-    record {
-      enabled = p.enabled;
-      volume = v % 16;
-      duty_cycle = v / 16 % 8;
-      ignore_duty = bit 7 v;
-      frequency = p.frequency;
-      timer = p.timer;
-      step = p.step;
-      freq_shift = p.freq_shift;
-    }
+pulse_controlled v p = record p { volume = v % 16; duty_cycle = v / 16 % 8; ignore_duty = bit 7 v }
 
 -- a register of the pulse gets a byte (01, Sound 1; VRC6 audio)
 unfoldable pub pulse_written : ChannelRegister → (val : ℕ) → Pulse → Pulse
@@ -84,17 +44,7 @@ pulse_written FrequencyHigh v p = pulse_enabled (enables v) (pulse_tuned (high_b
 
 -- p with another shift, by $9003 (01, Sound 1)
 abbrev pub pulse_shifted : (shift : ℕ) → Pulse → Pulse
-pulse_shifted s p =
-    record {
-      enabled = p.enabled;
-      volume = p.volume;
-      duty_cycle = p.duty_cycle;
-      ignore_duty = p.ignore_duty;
-      frequency = p.frequency;
-      timer = p.timer;
-      step = p.step;
-      freq_shift = s;
-    }
+pulse_shifted s p = record p { freq_shift = s }
 
 -- a clock of an enabled pulse: where the timer runs out, the next of 16 steps, counted up (VRC6 audio; m024_m026_vrc6.rs, Pulse::clock)
 abbrev pub pulse_run : Pulse → Pulse

@@ -10,7 +10,7 @@ use audio_shared::{high_bits, low_byte};
 use registers::ChannelRegister;
 
 #[repr(C)]
-#[derive(Clone, Copy)]
+#[derive(Clone, Copy, Default)]
 pub struct Pulse {
     pub enabled: bool,
     pub volume: u8,
@@ -28,14 +28,9 @@ impl Pulse {
         ensures { result ≡ pulse_at frequency }
     {
         Self {
-            enabled: false,
-            volume: 0,
-            duty_cycle: 0,
-            ignore_duty: false,
             frequency,
             timer: frequency,
-            step: 0,
-            freq_shift: 0,
+            ..Self::default()
         }
     }
 
@@ -45,6 +40,7 @@ impl Pulse {
         Self::silent(1)
     }
 
+    #[tactic(auto, unfolding(crate::specs::Pulses::pulse_written))]
     pub fn write_register(mut self, register: ChannelRegister, val: u8) -> Self
         ensures { result ≡ pulse_written register val self }
     {
@@ -53,29 +49,26 @@ impl Pulse {
                 self.volume = val % 16;
                 self.duty_cycle = val / 16 % 8;
                 self.ignore_duty = val / 128 % 2 == 1;
-                self
             }
-            ChannelRegister::FrequencyLow => {
-                self.frequency = low_byte(self.frequency, val);
-                self
-            }
+            ChannelRegister::FrequencyLow => self.frequency = low_byte(self.frequency, val),
             ChannelRegister::FrequencyHigh => {
                 self.frequency = high_bits(self.frequency, val);
                 self.enabled = val / 128 % 2 == 1;
-                if self.enabled {
-                    return self;
+                if !self.enabled {
+                    self.step = 0;
                 }
-                self.step = 0;
-                self
             }
         }
+        self
     }
 
-    pub fn set_freq_shift(mut self, val: u8) -> Self
+    pub fn set_freq_shift(self, val: u8) -> Self
         ensures { result ≡ pulse_shifted val self }
     {
-        self.freq_shift = val;
-        self
+        Self {
+            freq_shift: val,
+            ..self
+        }
     }
 
     // The Rust's `volume`, whose name a field has here. Nested tests run faster than joined ones: while the sound is
@@ -94,6 +87,7 @@ impl Pulse {
         0.0
     }
 
+    #[tactic(auto, unfolding(crate::specs::Pulses::pulse_clocked))]
     pub fn clock(mut self) -> Self
         requires { PulseIn self }
         ensures { result ≡ pulse_clocked self }

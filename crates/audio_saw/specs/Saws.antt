@@ -11,55 +11,19 @@ saw_at f = record { enabled = false; accum = 0; accum_rate = 0; frequency = f; t
 
 -- s with another timer, step and accumulator
 abbrev pub saw_timed : (timer step accum : ℕ) → Saw → Saw
-saw_timed t k a s =
-    record {
-      enabled = s.enabled;
-      accum = a;
-      accum_rate = s.accum_rate;
-      frequency = s.frequency;
-      timer = t;
-      step = k;
-      freq_shift = s.freq_shift;
-    }
+saw_timed t k a s = record s { accum = a; timer = t; step = k }
 
 -- s with another frequency
 abbrev pub saw_tuned : (frequency : ℕ) → Saw → Saw
-saw_tuned f s =
-    record {
-      enabled = s.enabled;
-      accum = s.accum;
-      accum_rate = s.accum_rate;
-      frequency = f;
-      timer = s.timer;
-      step = s.step;
-      freq_shift = s.freq_shift;
-    }
+saw_tuned f s = record s { frequency = f }
 
 -- s on or off; off, its accumulator and step are cleared (VRC6 audio)
 abbrev pub saw_enabled : Bool → Saw → Saw
-saw_enabled on s =
-    record {
-      enabled = on;
-      accum = cond on s.accum 0;
-      accum_rate = s.accum_rate;
-      frequency = s.frequency;
-      timer = s.timer;
-      step = cond on s.step 0;
-      freq_shift = s.freq_shift;
-    }
+saw_enabled on s = record s { enabled = on; accum = cond on s.accum 0; step = cond on s.step 0 }
 
 -- $B000: `..AA AAAA`, the rate (VRC6 audio)
 abbrev pub saw_controlled : (val : ℕ) → Saw → Saw
-saw_controlled v s =
-    record {
-      enabled = s.enabled;
-      accum = s.accum;
-      accum_rate = v % 64;
-      frequency = s.frequency;
-      timer = s.timer;
-      step = s.step;
-      freq_shift = s.freq_shift;
-    }
+saw_controlled v s = record s { accum_rate = v % 64 }
 
 -- a register of the saw gets a byte (01, Sound 1; VRC6 audio)
 unfoldable pub saw_written : ChannelRegister → (val : ℕ) → Saw → Saw
@@ -69,16 +33,7 @@ saw_written FrequencyHigh v s = saw_enabled (enables v) (saw_tuned (high_bits s.
 
 -- s with another shift, by $9003 (01, Sound 1)
 abbrev pub saw_shifted : (shift : ℕ) → Saw → Saw
-saw_shifted n s =
-    record {
-      enabled = s.enabled;
-      accum = s.accum;
-      accum_rate = s.accum_rate;
-      frequency = s.frequency;
-      timer = s.timer;
-      step = s.step;
-      freq_shift = n;
-    }
+saw_shifted n s = record s { freq_shift = n }
 
 -- the accumulator as a step begins: cleared at 0, the rate added at the other even steps, 8 bits, the carry discarded
 -- (01, Sound 1; 01, The form to use in each place 3; VRC6 audio)

@@ -10,7 +10,7 @@ use audio_shared::{high_bits, low_byte};
 use registers::ChannelRegister;
 
 #[repr(C)]
-#[derive(Clone, Copy)]
+#[derive(Clone, Copy, Default)]
 pub struct Saw {
     pub enabled: bool,
     pub accum: u8,
@@ -41,13 +41,9 @@ impl Saw {
         ensures { result ≡ saw_at frequency }
     {
         Self {
-            enabled: false,
-            accum: 0,
-            accum_rate: 0,
             frequency,
             timer: frequency,
-            step: 0,
-            freq_shift: 0,
+            ..Self::default()
         }
     }
 
@@ -57,36 +53,32 @@ impl Saw {
         Self::silent(1)
     }
 
+    #[tactic(auto, unfolding(crate::specs::Saws::saw_written))]
     pub fn write_register(mut self, register: ChannelRegister, val: u8) -> Self
         ensures { result ≡ saw_written register val self }
     {
         match register {
-            ChannelRegister::Volume => {
-                self.accum_rate = val % 64;
-                self
-            }
-            ChannelRegister::FrequencyLow => {
-                self.frequency = low_byte(self.frequency, val);
-                self
-            }
+            ChannelRegister::Volume => self.accum_rate = val % 64,
+            ChannelRegister::FrequencyLow => self.frequency = low_byte(self.frequency, val),
             ChannelRegister::FrequencyHigh => {
                 self.frequency = high_bits(self.frequency, val);
                 self.enabled = val / 128 % 2 == 1;
-                if self.enabled {
-                    return self;
+                if !self.enabled {
+                    self.accum = 0;
+                    self.step = 0;
                 }
-                self.accum = 0;
-                self.step = 0;
-                self
             }
         }
+        self
     }
 
-    pub fn set_freq_shift(mut self, val: u8) -> Self
+    pub fn set_freq_shift(self, val: u8) -> Self
         ensures { result ≡ saw_shifted val self }
     {
-        self.freq_shift = val;
-        self
+        Self {
+            freq_shift: val,
+            ..self
+        }
     }
 
     // The Rust's `volume`: the accumulator's high five bits.
@@ -100,6 +92,7 @@ impl Saw {
         }
     }
 
+    #[tactic(auto, unfolding(crate::specs::Saws::saw_clocked))]
     pub fn clock(mut self) -> Self
         requires { SawIn self }
         ensures { result ≡ saw_clocked self }

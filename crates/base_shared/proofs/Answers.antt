@@ -1,7 +1,8 @@
 -- Refusals and their numbers. Assumes nothing.
 use mathlib.Core.Path.{◌≡◌, refl, sym, ap, ◌∙◌}
 use Prim.Native.Nat.{ℕ, zero, suc}
-use Rattle.std.specs.Prelude.{Result, Ok, Err, ⊤}
+use mathlib.Core.Bool.{false}
+use Rattle.std.specs.Prelude.{Result, Ok, Err, ⊤, is_err}
 use Rattle.base_shared.specs.declared.Refusal.{Refusal}
 use Rattle.base_shared.specs.declared.Refusal.TheVariants.{Limits, Lengths, Range, FirstPage, NoHeader, Mapper, FileLength}
 use Rattle.base_shared.specs.Numbers.{number, number_of}
@@ -47,3 +48,8 @@ same_answer (Ok a) (Ok b) h = refl
 same_answer (Ok a) (Err s) h = absurd (never_zero s (sym h))
 same_answer (Err r) (Ok b) h = absurd (never_zero r h)
 same_answer (Err r) (Err s) h = ap Err (same_number r s h)
+
+-- an answer that is no refusal has the number 0
+pub accepted : {A : Type 0} (x : Result A Refusal) → is_err x ≡ false → number_of x ≡ 0
+accepted (Ok a) h = refl
+accepted (Err r) h = cc

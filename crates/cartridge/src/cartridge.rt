@@ -6,7 +6,7 @@ use memory_layout::MemoryLayout;
 use vrc6_banking::banking::{Mirroring, Revision};
 
 // What a header states: lengths of ROM in the header's units, those of RAM in bytes.
-#[derive(Clone, Copy)]
+#[derive(Clone, Copy, Debug, PartialEq, Eq)]
 pub struct NesHeader {
     pub mapper_num: u16,
     // Units of 16,384 bytes.
@@ -41,48 +41,43 @@ impl NesHeader {
     fn revision(self) -> Revision
         ensures { result ≡ stated_revision self }
     {
-        if self.mapper_num == 26 {
-            return Revision::B;
+        match self.mapper_num {
+            26 => Revision::B,
+            _ => Revision::A,
         }
-        Revision::A
     }
 
     // Four screens are stronger than the bit for vertical.
     fn mirroring(self) -> Mirroring
         ensures { result ≡ stated_mirroring self }
     {
-        if self.four_screens {
-            return Mirroring::FourScreen;
+        match (self.four_screens, self.vertical) {
+            (true, _) => Mirroring::FourScreen,
+            (false, true) => Mirroring::Vertical,
+            (false, false) => Mirroring::Horizontal,
         }
-        if self.vertical {
-            return Mirroring::Vertical;
-        }
-        Mirroring::Horizontal
     }
 
     fn ciram(self) -> u32
         ensures { result ≡ stated_ciram self }
     {
-        if self.four_screens {
-            return 4096;
-        }
-        2048
+        if self.four_screens { 4096 } else { 2048 }
     }
 
     fn chr(self) -> u32
         ensures { result ≡ stated_chr self }
     {
-        if self.chr_rom_banks == 0 {
-            return self.chr_ram;
+        match self.chr_rom_banks {
+            0 => self.chr_ram,
+            units => 8192 * u32::from(units),
         }
-        8192 * (self.chr_rom_banks as u32)
     }
 
     fn layout(self) -> MemoryLayout
         ensures { result ≡ stated_layout self }
     {
         MemoryLayout {
-            prg_rom: 16384 * (self.prg_rom_banks as u32),
+            prg_rom: 16384 * u32::from(self.prg_rom_banks),
             chr: self.chr(),
             chr_writable: self.chr_rom_banks == 0,
             prg_ram: self.prg_ram,
@@ -94,33 +89,28 @@ impl NesHeader {
     fn prg_start(self) -> u32
         ensures { (result ≡ prg_start self) × (result ≤ 528) }
     {
-        if self.trainer {
-            return 16 + 512;
-        }
-        16
+        if self.trainer { 16 + 512 } else { 16 }
     }
 
     // 528 bytes and 65,535 units of PRG are less than 1,073,742,000.
     fn chr_start(self) -> u32
         ensures { (result ≡ chr_start self) × (result ≤ 1073742000) }
     {
-        self.prg_start() + 16384 * (self.prg_rom_banks as u32)
+        self.prg_start() + 16384 * u32::from(self.prg_rom_banks)
     }
 
     // How long the file must be. CHR that is RAM takes no bytes of it.
     fn file_end(self) -> u32
         ensures { result ≡ file_end self }
     {
-        self.chr_start() + 8192 * (self.chr_rom_banks as u32)
+        self.chr_start() + 8192 * u32::from(self.chr_rom_banks)
     }
 
     // Whether a board takes these lengths, and a file of so many bytes has all that it states.
     pub fn fits(self, length: usize) -> bool
         ensures { result ≡ fits self length }
     {
-        let layout = self.layout();
-        let end = self.file_end() as usize;
-        layout.within_limits() & (end <= length)
+        self.layout().within_limits() & (self.file_end() as usize <= length)
     }
 
     pub fn cartridge(self) -> Cartridge

@@ -1,4 +1,3 @@
-pub mod Reading
 pub mod Meanings
 pub mod Numbers
 pub mod Places

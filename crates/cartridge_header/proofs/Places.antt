@@ -7,14 +7,13 @@ use native.Mathlib.Omega.{arith}
 use lib.Dec.{eqb, leb}
 use lib.ListN.{length}
 use borrow.Author.Tests.{leb-true}
-use Rattle.base_shared.specs.Refusals.{first_failing}
 use Rattle.base_shared.proofs.Tests.{and_left, and_right, either, tested}
 use Rattle.memory_layout.specs.Layout.{within_limits}
 use Rattle.cartridge.specs.declared.cartridge.Cartridge.{Cartridge}
 use Rattle.cartridge.specs.declared.cartridge.NesHeader.{NesHeader}
-use Rattle.cartridge_header.specs.declared.HeaderRead.TheVariants.{Accepted}
+use Rattle.std.specs.Prelude.{Ok}
 use Rattle.cartridge.specs.Cartridges.{cartridge_of, file_end, fits, stated_layout}
-use Rattle.cartridge_header.specs.Ines.{header_checks, read_header, stated_by}
+use Rattle.cartridge_header.specs.Ines.{is_ines, is_supported, read_header, stated_by}
 use Rattle.cartridge_header.specs.Laws.{Headed, Supported, Fitting, InFile, InFileLaw}
 use Rattle.cartridge_header.proofs.Meanings.{fitting}
 use Rattle.cartridge_header.proofs.Numbers.{accepted_by, header_numbers_law}
@@ -26,11 +25,11 @@ pub record Known (file : List ℕ) (c : Cartridge) : Type 0 where
   pub supported : Supported file
   pub fitting : Fitting file
 
-pub known : (file : List ℕ) (c : Cartridge) → read_header file ≡ Accepted c → Known file c
+pub known : (file : List ℕ) (c : Cartridge) → read_header file ≡ Ok c → Known file c
 known file c h =
-    let got = accepted_by (cartridge_of (stated_by file)) (first_failing (header_checks file)) c h in
-    let all = (header_numbers_law file).accepted.0 (h ∙ ap Accepted got.1) in
-    record { stated = got.1; headed = all.0; supported = all.1.0; fitting = all.1.1 }
+    let got = accepted_by (cartridge_of (stated_by file)) (is_ines file) (is_supported file) (fits (stated_by file) (length file)) c h in
+    let all = (header_numbers_law file).accepted.0 (h ∙ ap Ok got) in
+    record { stated = got; headed = all.0; supported = all.1.0; fitting = all.1.1 }
 
 -- what CHR takes of the file
 taken : (none : Bool) (ram rom : ℕ) → cond none 0 (cond none ram rom) ≤ rom

@@ -12,7 +12,7 @@ use Rattle.base_shared.proofs.Tests.{tested}
 use Rattle.memory_layout.specs.Layout.{within_limits}
 use Rattle.memory_layout.proofs.Limited.{limits}
 use Rattle.cartridge.specs.declared.cartridge.Cartridge.{Cartridge}
-use Rattle.cartridge_header.specs.declared.HeaderRead.TheVariants.{Accepted}
+use Rattle.std.specs.Prelude.{Ok}
 use Rattle.cartridge.specs.Cartridges.{file_end, fits, stated_layout}
 use Rattle.cartridge_header.specs.Ines.{file_byte, read_header, stated_by}
 use Rattle.cartridge_header.specs.Laws.{UnreadLaw, longest}
@@ -63,7 +63,7 @@ later file i v h =
     let l = length-set file i v in
     same (set file i v) file e (ap (leb 16) l) (ap (fits (stated_by (set file i v))) l)
 
-trailing : (file more : List ℕ) (c : Cartridge) → read_header file ≡ Accepted c → read_header (file ++ more) ≡ Accepted c
+trailing : (file more : List ℕ) (c : Cartridge) → read_header file ≡ Ok c → read_header (file ++ more) ≡ Ok c
 trailing file more c h =
     let g = file ++ more in
     let k = known file c h in

@@ -1,10 +1,10 @@
 -- The iNES header over the bytes of a file (02, change 2). Assumes nothing.
-use Rattle.std.specs.Prelude.{Bool, not, ◌&&◌, List, [], ◌∷◌, ℕ, ◌+◌, ◌*◌, ◌/◌, eqb, leb, length, get_or}
+use Rattle.std.specs.Prelude.{Bool, cond, not, ◌&&◌, List, [], ◌∷◌, ℕ, ◌+◌, ◌*◌, ◌/◌, eqb, leb, length, get_or, Result, Ok, Err}
 use Rattle.base_shared.specs.Bits.{bit}
-use Rattle.base_shared.specs.Refusals.{first_failing, unless}
+use Rattle.base_shared.specs.declared.Refusal.{Refusal}
+use Rattle.base_shared.specs.declared.Refusal.TheVariants.{NoHeader, Mapper, FileLength}
+use Rattle.cartridge.specs.declared.cartridge.Cartridge.{Cartridge}
 use Rattle.cartridge.specs.declared.cartridge.NesHeader.{NesHeader}
-use Rattle.cartridge_header.specs.declared.HeaderRead.{HeaderRead}
-use Rattle.cartridge_header.specs.declared.HeaderRead.TheVariants.{Accepted, Refused}
 use Rattle.cartridge.specs.Cartridges.{is_vrc6, fits, cartridge_of}
 
 -- byte i of a file, 0 past its end
@@ -42,17 +42,20 @@ stated_by file =
 abbrev pub is_supported : List ℕ → Bool
 is_supported file = is_vrc6 (stated_by file) && not (is_newer file)
 
--- 5 a short header or other first bytes; then 6 another mapper, or the newer edition; then 7 a length over its limit or a file that
--- ends early (02, change 2)
-abbrev pub header_checks : List ℕ → List (Bool × ℕ)
+-- a short header or other first bytes; then another mapper, or the newer edition; then a length over its limit or a file that ends early
+-- (02, change 2)
+abbrev pub header_checks : List ℕ → List (Bool × Refusal)
 header_checks file =
-    (is_ines file, 5)
-    ∷ (is_supported file, 6)
-    ∷ (fits (stated_by file) (length file), 7)
+    (is_ines file, NoHeader)
+    ∷ (is_supported file, Mapper)
+    ∷ (fits (stated_by file) (length file), FileLength)
     ∷ []
 
--- the cartridge where no condition fails, and otherwise the number of the first that does (02, change 2)
-abbrev pub read_header : List ℕ → HeaderRead
-read_header file =
-    let n = first_failing (header_checks file) in
-    unless n (Accepted (cartridge_of (stated_by file))) (Refused n)
+-- the value where no condition fails, and otherwise the refusal of the first that does (01, The board's calls 4)
+abbrev pub unless_failing : {A : Type 0} → List (Bool × Refusal) → A → Result A Refusal
+unless_failing [] x = Ok x
+unless_failing (t ∷ ts) x = cond t.0 (unless_failing ts x) (Err t.1)
+
+-- the cartridge where no condition fails, and otherwise the refusal of the first that does (02, change 2)
+abbrev pub read_header : List ℕ → Result Cartridge Refusal
+read_header file = unless_failing (header_checks file) (cartridge_of (stated_by file))

@@ -1,8 +1,9 @@
 -- Laws of the header, for every file; `proofs/` proves them. Assumes nothing.
-use Rattle.std.specs.Prelude.{◌≡◌, true, cond, List, [], ◌∷◌, ◌++◌, ◌⊎◌, ◌↔◌, ℕ, ◌+◌, ◌*◌, ◌/◌, ◌%◌, ◌≤◌, length, set, take}
+use Rattle.std.specs.Prelude.{◌≡◌, Ok, Err, true, cond, List, [], ◌∷◌, ◌++◌, ◌⊎◌, ◌↔◌, ℕ, ◌+◌, ◌*◌, ◌/◌, ◌%◌, ◌≤◌, length, set, take}
 use Rattle.memory_layout.specs.Layout.{within_limits}
 use Rattle.cartridge.specs.declared.cartridge.Cartridge.{Cartridge}
-use Rattle.cartridge_header.specs.declared.HeaderRead.TheVariants.{Accepted, Refused}
+use Rattle.base_shared.specs.declared.Refusal.{Refusal}
+use Rattle.base_shared.specs.Numbers.{number, number_of}
 use Rattle.cartridge.specs.Cartridges.{cartridge_of}
 use Rattle.cartridge_header.specs.Ines.{file_byte, mapper_number, stated_by, read_header}
 
@@ -25,11 +26,11 @@ Fitting file = (file_byte file 4 ≤ 16) × (file_byte file 5 ≤ 32) × (needed
 
 -- each number is answered where its condition fails and those before it hold, and only there; there is no other number (02, change 2)
 pub record HeaderNumbers (file : List ℕ) : Type 0 where
-  pub five : (read_header file ≡ Refused 5) ↔ (Headed file → ⊥)
-  pub six : (read_header file ≡ Refused 6) ↔ (Headed file × (Supported file → ⊥))
-  pub seven : (read_header file ≡ Refused 7) ↔ (Headed file × (Supported file × (Fitting file → ⊥)))
-  pub accepted : (read_header file ≡ Accepted (cartridge_of (stated_by file))) ↔ (Headed file × (Supported file × Fitting file))
-  pub no_other : (n : ℕ) → read_header file ≡ Refused n → (n ≡ 5) ⊎ (n ≡ 6) ⊎ (n ≡ 7)
+  pub five : (number_of (read_header file) ≡ 5) ↔ (Headed file → ⊥)
+  pub six : (number_of (read_header file) ≡ 6) ↔ (Headed file × (Supported file → ⊥))
+  pub seven : (number_of (read_header file) ≡ 7) ↔ (Headed file × (Supported file × (Fitting file → ⊥)))
+  pub accepted : (read_header file ≡ Ok (cartridge_of (stated_by file))) ↔ (Headed file × (Supported file × Fitting file))
+  pub no_other : (r : Refusal) → read_header file ≡ Err r → (number r ≡ 5) ⊎ (number r ≡ 6) ⊎ (number r ≡ 7)
 
 -- of every file (02, change 2)
 abbrev pub HeaderNumbersLaw : Type 0
@@ -46,7 +47,7 @@ pub record InFile (fileLength : ℕ) (c : Cartridge) : Type 0 where
 
 -- of every accepted file (02, change 2)
 abbrev pub InFileLaw : Type 0
-InFileLaw = (file : List ℕ) (c : Cartridge) → read_header file ≡ Accepted c → InFile (length file) c
+InFileLaw = (file : List ℕ) (c : Cartridge) → read_header file ≡ Ok c → InFile (length file) c
 
 -- ---- bytes that make no difference
 -- the bytes of the longest file: header, trainer, 262,144 of PRG and as many of CHR
@@ -56,5 +57,5 @@ longest = 524_816
 -- those from 8 on, those behind a whole file, and in any file those behind the longest one's (02, change 2)
 pub record UnreadLaw : Type 0 where
   pub later : (file : List ℕ) (i v : ℕ) → 8 ≤ i → read_header (set file i v) ≡ read_header file
-  pub trailing : (file more : List ℕ) (c : Cartridge) → read_header file ≡ Accepted c → read_header (file ++ more) ≡ Accepted c
+  pub trailing : (file more : List ℕ) (c : Cartridge) → read_header file ≡ Ok c → read_header (file ++ more) ≡ Ok c
   pub cut : (file : List ℕ) → read_header (take longest file) ≡ read_header file

@@ -1,11 +1,9 @@
 -- The interrupt counter over a step d and a line length l (01, Interrupt; VRC IRQ). Assumes nothing.
-use Rattle.std.specs.Prelude.{Bool, true, false, cond, not, ◌&&◌, ◌||◌, ℕ, ◌+◌, ◌-◌, ◌*◌, ◌/◌, eqb, leb}
+use Rattle.std.specs.Prelude.{Bool, true, false, cond, not, ◌&&◌, ◌||◌, ℕ, ◌+◌, ◌-◌, ◌*◌, ◌/◌, eqb, leb, Option, Some, None}
 use Rattle.base_shared.specs.Bits.{bit}
 use Rattle.base_steps.specs.Falls.{fallen}
 use Rattle.irq.specs.declared.VrcIrq.{VrcIrq}
 use Rattle.irq.specs.declared.IrqClocked.{IrqClocked}
-use Rattle.irq.specs.declared.IrqForecast.{IrqForecast}
-use Rattle.irq.specs.declared.IrqForecast.TheVariants.{None, In}
 
 -- it counts lines: enabled, and not in cycle mode; the wiki's scanline mode (01, Interrupt 1; VRC IRQ)
 abbrev pub counts_lines : VrcIrq → Bool
@@ -25,16 +23,7 @@ next_pending k b = cond (eqb k 255) true b
 
 -- q with another counter, prescaler and pending
 abbrev pub irq_at : VrcIrq → (counter prescaler : ℕ) → (pending : Bool) → VrcIrq
-irq_at q k p b =
-    record {
-      reload = q.reload;
-      counter = k;
-      prescalar_counter = p;
-      irq_pending = b;
-      enabled = q.enabled;
-      enabled_after_ack = q.enabled_after_ack;
-      cycle_mode = q.cycle_mode;
-    }
+irq_at q k p b = record q { counter = k; prescalar_counter = p; irq_pending = b }
 
 -- a tick whose clock leaves the prescaler at p (01, Interrupt 1)
 abbrev pub irq_tick : (prescaler : ℕ) → VrcIrq → VrcIrq
@@ -53,22 +42,12 @@ irq_answer d l q = record { irq = irq_clocked d l q; ticked = irq_ticks d q }
 
 -- $F000, reload (01, Interrupt 1; VRC IRQ)
 abbrev pub irq_reload : (v : ℕ) → VrcIrq → VrcIrq
-irq_reload v q =
-    record {
-      reload = v;
-      counter = q.counter;
-      prescalar_counter = q.prescalar_counter;
-      irq_pending = q.irq_pending;
-      enabled = q.enabled;
-      enabled_after_ack = q.enabled_after_ack;
-      cycle_mode = q.cycle_mode;
-    }
+irq_reload v q = record q { reload = v }
 
 -- $F001, control (01, Interrupt 1; VRC IRQ)
 abbrev pub irq_control : (l v : ℕ) → VrcIrq → VrcIrq
 irq_control l v q =
-    record {
-      reload = q.reload;
+    record q {
       counter = cond (bit 1 v) q.reload q.counter;
       prescalar_counter = cond (bit 1 v) l q.prescalar_counter;
       irq_pending = false;
@@ -79,16 +58,7 @@ irq_control l v q =
 
 -- $F002, acknowledge (01, Interrupt 1; VRC IRQ)
 abbrev pub irq_acknowledged : VrcIrq → VrcIrq
-irq_acknowledged q =
-    record {
-      reload = q.reload;
-      counter = q.counter;
-      prescalar_counter = q.prescalar_counter;
-      irq_pending = false;
-      enabled = q.enabled_after_ack;
-      enabled_after_ack = q.enabled_after_ack;
-      cycle_mode = q.cycle_mode;
-    }
+irq_acknowledged q = record q { irq_pending = false; enabled = q.enabled_after_ack }
 
 -- at creation and after a reset, soft or hard: all clear (01, Interrupt 1; 01, Banks and decode 2)
 abbrev pub irq_zero : VrcIrq
@@ -113,5 +83,5 @@ forecast_in d l q =
     cond q.cycle_mode (256 - q.counter) ((l * (255 - q.counter) + q.prescalar_counter + (d - 1)) / d)
 
 -- the forecast: None if not enabled (01, The board's calls 2)
-abbrev pub irq_forecast : (d l : ℕ) → VrcIrq → IrqForecast
-irq_forecast d l q = cond q.enabled (In (forecast_in d l q)) None
+abbrev pub irq_forecast : (d l : ℕ) → VrcIrq → Option ℕ
+irq_forecast d l q = cond q.enabled (Some (forecast_in d l q)) None

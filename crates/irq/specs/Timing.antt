@@ -1,9 +1,8 @@
 -- The interrupt counter of this board, whose clock takes 3 from the prescaler and whose line gives it 341 (01, Interrupt). Assumes nothing.
-use Rattle.std.specs.Prelude.{Bool, ℕ}
+use Rattle.std.specs.Prelude.{Bool, ℕ, Option}
 use Rattle.base_steps.specs.Falls.{fallen}
 use Rattle.irq.specs.declared.VrcIrq.{VrcIrq}
 use Rattle.irq.specs.declared.IrqClocked.{IrqClocked}
-use Rattle.irq.specs.declared.IrqForecast.{IrqForecast}
 use Rattle.irq.specs.Interrupt.{irq_answer, irq_control, irq_in_range, irq_forecast}
 
 -- what a clock takes from the prescaler (01, Interrupt 1)
@@ -31,5 +30,5 @@ abbrev pub irq_held : VrcIrq → Bool
 irq_held q = irq_in_range line_length q
 
 -- the forecast (01, The board's calls 2)
-abbrev pub forecast_answer : VrcIrq → IrqForecast
+abbrev pub forecast_answer : VrcIrq → Option ℕ
 forecast_answer q = irq_forecast line_step line_length q

@@ -16,7 +16,7 @@ pub const LINE: u16 = 341;
 
 // In this order it takes ten bytes. A struct of eight is passed as one number, which is slower to take apart.
 #[repr(C)]
-#[derive(Clone, Copy)]
+#[derive(Clone, Copy, Default)]
 pub struct VrcIrq {
     pub reload: u8,
     pub prescalar_counter: u16,
@@ -34,13 +34,6 @@ pub struct IrqClocked {
     pub ticked: bool,
 }
 
-// The clocks until the counter sets pending.
-#[derive(Clone, Copy)]
-pub enum IrqForecast {
-    None,
-    In(u32),
-}
-
 // The prescaler after a clock that counts lines. What is over at the end of a line is carried into the next.
 fn fallen(prescaler: u16) -> u16
     ensures { result ≡ prescaler_fallen prescaler }
@@ -56,33 +49,26 @@ impl VrcIrq {
     pub fn new() -> Self
         ensures { result ≡ irq_zero }
     {
-        VrcIrq {
-            reload: 0,
-            counter: 0,
-            prescalar_counter: 0,
-            irq_pending: false,
-            enabled: false,
-            enabled_after_ack: false,
-            cycle_mode: false,
-        }
+        Self::default()
     }
 
-    pub fn write_reload(mut self, val: u8) -> Self
+    pub fn write_reload(self, val: u8) -> Self
         ensures { result ≡ irq_reload val self }
     {
-        self.reload = val;
-        self
+        Self {
+            reload: val,
+            ..self
+        }
     }
 
     pub fn write_control(mut self, val: u8) -> Self
         ensures { result ≡ control_written val self }
     {
-        let enabled = val / 2 % 2 == 1;
         self.enabled_after_ack = val % 2 == 1;
-        self.enabled = enabled;
+        self.enabled = val / 2 % 2 == 1;
         self.cycle_mode = val / 4 % 2 == 1;
         self.irq_pending = false;
-        if enabled {
+        if self.enabled {
             self.counter = self.reload;
             self.prescalar_counter = LINE;
         }
@@ -92,10 +78,11 @@ impl VrcIrq {
     pub fn acknowledge(self) -> Self
         ensures { result ≡ irq_acknowledged self }
     {
-        let mut irq = self;
-        irq.enabled = self.enabled_after_ack;
-        irq.irq_pending = false;
-        irq
+        Self {
+            enabled: self.enabled_after_ack,
+            irq_pending: false,
+            ..self
+        }
     }
 
     pub fn write_register(self, register: IrqRegister, val: u8) -> Self
@@ -113,26 +100,23 @@ impl VrcIrq {
         ensures { result ≡ irq_written_to (decode revision_b addr) val self }
     {
         match decode(revision_b, addr) {
-            Register::Nothing => self,
-            Register::OfBank(bank) => self,
-            Register::OfAudio(sound) => self,
-            Register::OfIrq(line) => self.write_register(line, val),
+            Register::OfIrq(register) => self.write_register(register, val),
+            _ => self,
         }
     }
 
     // A tick, with the prescaler that its clock leaves.
-    fn tick(self, prescaler: u16) -> Self
+    fn tick(mut self, prescaler: u16) -> Self
         ensures { result ≡ irq_tick prescaler self }
     {
-        let mut irq = self;
-        irq.prescalar_counter = prescaler;
+        self.prescalar_counter = prescaler;
         if self.counter == 255 {
-            irq.counter = self.reload;
-            irq.irq_pending = true;
-            return irq;
+            self.counter = self.reload;
+            self.irq_pending = true;
+        } else {
+            self.counter += 1;
         }
-        irq.counter = self.counter + 1;
-        irq
+        self
     }
 
     pub fn clock(mut self) -> IrqClocked
@@ -166,7 +150,7 @@ impl VrcIrq {
     pub fn reset(self) -> Self
         ensures { result ≡ irq_zero }
     {
-        VrcIrq::new()
+        Self::new()
     }
 
     pub fn in_range(self) -> bool
@@ -175,22 +159,19 @@ impl VrcIrq {
         self.prescalar_counter <= LINE
     }
 
-    pub fn forecast(self) -> IrqForecast
+    // The clocks until the counter sets pending; none if it isn't enabled.
+    pub fn forecast(self) -> Option<u32>
         ensures { result ≡ forecast_answer self }
     {
-        let armed = self.enabled;
-        if armed {
-            let counter = self.counter as u32;
-            if self.cycle_mode {
-                let clocks = 256 - counter;
-                return IrqForecast::In(clocks);
-            }
-            // How far the prescaler has to fall, divided by what a clock takes and rounded up.
-            let step = STEP as u32;
-            let far = (LINE as u32) * (255 - counter) + (self.prescalar_counter as u32);
-            let clocks = (far + (step - 1)) / step;
-            return IrqForecast::In(clocks);
+        if !self.enabled {
+            return None;
         }
-        IrqForecast::None
+        let counter = u32::from(self.counter);
+        if self.cycle_mode {
+            return Some(256 - counter);
+        }
+        // How far the prescaler has to fall, divided by what a clock takes and rounded up.
+        let far = u32::from(LINE) * (255 - counter) + u32::from(self.prescalar_counter);
+        Some(far.div_ceil(u32::from(STEP)))
     }
 }

@@ -1,9 +1,9 @@
 -- With the step and the line length of this board: the forecast that is one clock short. Assumes nothing.
 use mathlib.Core.Path.{◌≡◌, ap, subst}
 use mathlib.Core.Logic.{inl}
+use Rattle.std.specs.Prelude.{Some}
 use Prim.Native.Nat.{suc}
 use native.Mathlib.Omega.{arith}
-use Rattle.irq.specs.declared.IrqForecast.TheVariants.{In}
 use Rattle.irq.specs.Interrupt.{forecast_in}
 use Rattle.irq.specs.Timing.{line_step, line_length}
 use Rattle.irq.proofs.Board.{pace}
@@ -16,7 +16,7 @@ use Rattle.irq_clocks.proofs.Forecasts.{forecast_law}
 pub short_forecast_law : ShortForecastLaw
 short_forecast_law q h z k =
     record {
-      says = rw (lines_enabled q h) (ap In none);
+      says = rw (lines_enabled q h) (ap Some none);
       needs =
           subst (LeastClocks line_step line_length q) (ap suc none)
           ((forecast_law line_step line_length pace q (lines_enabled q h) (omega arith)).late (record { lines = lines_mode q h; prescaler = z; last = inl k }));

@@ -5,13 +5,13 @@ use mathlib.Core.Logic.{◌⊎◌, inl, inr, ◌↔◌}
 use Prim.Native.Nat.{ℕ, zero, suc, ◌+◌, ◌-◌, ◌*◌, ◌/◌, ◌≤◌, ◌<◌}
 use native.Mathlib.Omega.{arith}
 use lib.Dec.{leb, eqb}
+use Rattle.std.specs.Prelude.{Some, None}
 use borrow.Author.Tests.{leb-true, leb-false, eq-eqb, ne_eqb, eqb-true, eqb-false}
 use Rattle.base_shared.proofs.Tests.{tested}
 use Rattle.base_steps.specs.Times.{times, count}
 use Rattle.base_steps.specs.Falls.{Pace, runs, due}
 use Rattle.base_steps.proofs.Falling.{fall_due_law, due_plain_law}
 use Rattle.irq.specs.declared.VrcIrq.{VrcIrq}
-use Rattle.irq.specs.declared.IrqForecast.TheVariants.{None, In}
 use Rattle.irq.specs.Interrupt.{irq_at, irq_ticks, next_counter, counts_lines, forecast_in}
 use Rattle.irq_clocks.specs.Clocks.{irq_clocked_times, reported, Unset, irq_sets, LeastClocks}
 use Rattle.irq_clocks.specs.Laws.{PendingLaw, GainLaw, QuietLaw, SoonerLaw, OneFirstLaw, NoneLaw, Exact, Late, ForecastLaw}
@@ -180,6 +180,6 @@ one_first_law d l q m n f g =
 pub none_law : NoneLaw
 none_law d l q = go q.enabled
   where
-    go : (b : Bool) → (cond b (In (forecast_in d l q)) None ≡ None) ↔ (b ≡ false)
+    go : (b : Bool) → (cond b (Some (forecast_in d l q)) None ≡ None) ↔ (b ≡ false)
     go true = (λ h. absurd (let z : ◌≡◌ {A = ℕ} 0 1 = cc in omega arith), λ h. absurd (false≢true (sym h)))
     go false = (λ h. refl, λ h. refl)

@@ -1,5 +1,5 @@
 -- The laws of a run of clocks: what they leave alone, and how many tick. Assumes nothing.
-use mathlib.Core.Path.{◌≡◌, refl, sym, ap, ap₂, ◌∙◌}
+use mathlib.Core.Path.{◌≡◌, refl, ap, ap₂, ◌∙◌}
 use mathlib.Core.Bool.{Bool, true, false, cond, not, ◌&&◌, ◌||◌, false≢true}
 use Prim.Native.Nat.{ℕ, zero, suc}
 use lib.Dec.{leb}
@@ -9,9 +9,7 @@ use Rattle.base_steps.specs.Falls.{fallen, fell, runs}
 use Rattle.base_steps.proofs.Iterated.{still, count_same, count_none, count_all}
 use Rattle.base_steps.proofs.Falling.{tick_law}
 use Rattle.irq.specs.declared.VrcIrq.{VrcIrq}
-use Rattle.irq.specs.declared.IrqClocked.{IrqClocked}
 use Rattle.irq.specs.Interrupt.{irq_at, irq_ticks, irq_clocked, counts_lines}
-use Rattle.irq.proofs.Ways.{idle}
 use Rattle.irq_clocks.specs.Clocks.{irq_clocked_times, reported}
 use Rattle.irq_clocks.specs.Laws.{AfterClocksLaw, StretchLaw, CycleLaw, IdleLaw}
 
@@ -82,10 +80,14 @@ cycle_law d l q c e f = (
     tick : (n : ℕ) → irq_ticks d (irq_clocked_times d l n q) ≡ true
     tick n = ticks_by d (irq_clocked_times d l n q) (still_enabled d l n q ∙ e) (still_cycle d l n q ∙ f) refl
 
+-- a clock of a counter that is not enabled
+idle : (d l : ℕ) (q : VrcIrq) → q.enabled ≡ false → irq_clocked d l q ≡ q
+idle d l q e = rw e
+
 pub idle_law : IdleLaw
 idle_law d l q c e = (
   count_none (irq_ticks d) (irq_clocked d l) q tick c,
-  still (irq_clocked d l) q (sym (ap (λ (r : IrqClocked). r.irq) (idle d l q e))) c,
+  still (irq_clocked d l) q (idle d l q e) c,
 )
   where
     tick : (n : ℕ) → irq_ticks d (irq_clocked_times d l n q) ≡ false

@@ -1,8 +1,7 @@
 -- What holds of runs of clocks and of the forecast, for any step d and line length l with 1 ≤ d ≤ l. Assumes nothing.
-use Rattle.std.specs.Prelude.{◌≡◌, true, false, cond, ◌||◌, ◌⊎◌, ◌↔◌, ℕ, suc, ◌+◌, ◌-◌, ◌*◌, ◌/◌, ◌≤◌, ◌<◌}
+use Rattle.std.specs.Prelude.{◌≡◌, Some, None, true, false, cond, ◌||◌, ◌⊎◌, ◌↔◌, ℕ, suc, ◌+◌, ◌-◌, ◌*◌, ◌/◌, ◌≤◌, ◌<◌}
 use Rattle.base_steps.specs.Falls.{Pace, fell}
 use Rattle.irq.specs.declared.VrcIrq.{VrcIrq}
-use Rattle.irq.specs.declared.IrqForecast.TheVariants.{None, In}
 use Rattle.irq.specs.Interrupt.{counts_lines, irq_at, irq_clocked, forecast_in, irq_forecast}
 use Rattle.irq.specs.Timing.{line_step, line_length, forecast_answer}
 use Rattle.irq_clocks.specs.Clocks.{irq_clocked_times, reported, Unset, irq_sets, LeastClocks}
@@ -89,7 +88,7 @@ ForecastLaw = (d l : ℕ) → Pace d l → (q : VrcIrq) → q.enabled ≡ true �
 
 -- the forecast of this board's formula at prescaler 0 and counter 255, counting lines: it says 0, and one clock is needed (01, The board's calls 2)
 pub record ShortForecast (q : VrcIrq) : Type 0 where
-  pub says : forecast_answer q ≡ In 0
+  pub says : forecast_answer q ≡ Some 0
   pub needs : LeastClocks line_step line_length q 1
 
 -- the same for every such state

@@ -13,35 +13,26 @@ pub struct Lines {
     pub prescaler: u16,
 }
 
-fn fewer(a: u32, b: u32) -> u32
-    ensures { result ≡ min a b }
-{
-    if a < b { a } else { b }
-}
-
 // The lines of n clocks that count them. A prescaler above a line's length only falls at first.
 pub fn lines_gone(step: u16, line: u16, prescaler: u16, n: u32) -> Lines
     requires pace { Pace step line }
     requires n_bound { step * n + 65535 < 2 ^ 32 }
     ensures { result ≡ lines_gone step line prescaler n }
 {
-    let given = prescaler as u32;
-    let length = line as u32;
-    let fallen = (step as u32) * n;
+    let given = u32::from(prescaler);
+    let length = u32::from(line);
+    let fallen = u32::from(step) * n;
     if fallen < given {
-        let rest = given - fallen;
         return Lines {
             ended: 0,
-            prescaler: rest as u16,
+            prescaler: (given - fallen) as u16,
         };
     }
-    let far = fallen + length;
     // Where step and length are equal, a prescaler of 0 would give a line too many.
-    let ended = fewer(n, (far - given) / length);
-    let rest = given + length * ended - fallen;
+    let ended = n.min((fallen + length - given) / length);
     Lines {
         ended,
-        prescaler: rest as u16,
+        prescaler: (given + length * ended - fallen) as u16,
     }
 }
 
@@ -50,10 +41,11 @@ fn gained(irq: VrcIrq, ticks: u32, prescaler: u16) -> VrcIrq
     requires { irq.counter + ticks ≤ 255 }
     ensures { result ≡ irq_at irq (irq.counter + ticks) prescaler irq.irq_pending }
 {
-    let mut q = irq;
-    q.counter = irq.counter + (ticks as u8);
-    q.prescalar_counter = prescaler;
-    q
+    VrcIrq {
+        counter: irq.counter + ticks as u8,
+        prescalar_counter: prescaler,
+        ..irq
+    }
 }
 
 // The counter after n clocks, none of which sets pending.
@@ -62,8 +54,7 @@ pub fn clock_times(irq: VrcIrq, step: u16, line: u16, n: u32) -> VrcIrq
     requires unset { Unset step line n irq }
     ensures { result ≡ irq_clocked_times step line n irq }
 {
-    let armed = irq.enabled;
-    if armed {
+    if irq.enabled {
         let given = irq.prescalar_counter;
         if irq.cycle_mode {
             return gained(irq, n, given);

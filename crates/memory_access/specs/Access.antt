@@ -1,5 +1,7 @@
 -- One access: its refusal, the byte that an address shows, a byte stored, the page's bytes (01, Paging; 01, The board's calls). Assumes nothing.
-use Rattle.std.specs.Prelude.{Bool, true, cond, ◌&&◌, List, [], ◌∷◌, ◌++◌, ℕ, ◌+◌, ◌-◌, ◌%◌, length, get_or, set, take, drop}
+use Rattle.std.specs.Prelude.{Bool, true, cond, ◌&&◌, List, [], ◌∷◌, ◌++◌, ℕ, ◌+◌, ◌-◌, ◌%◌, length, get_or, set, take, drop, Result, Ok, Err}
+use Rattle.base_shared.specs.declared.Refusal.{Refusal}
+use Rattle.base_shared.specs.Numbers.{number}
 use Rattle.base_shared.specs.Refusals.{first_failing, unless}
 use Rattle.memory_pages.specs.declared.page.Page.{Page}
 use Rattle.memory_pages.specs.Pages.{offset, writable}
@@ -42,6 +44,11 @@ peeked l e fixed changing address =
       byte = unless (plain_refusal l e fixed changing) (byte_at e fixed changing address) 0;
       refusal = plain_refusal l e fixed changing;
     }
+
+-- a byte or a refusal as the answer that C reads (01, The board's calls 3)
+abbrev pub answered : Result ℕ Refusal → Peeked
+answered (Ok byte) = record { byte = byte; refusal = 0 }
+answered (Err refusal) = record { byte = 0; refusal = number refusal }
 
 -- what a write leaves of the changing buffer; refused, all of it (01, The board's calls 3)
 abbrev pub written : MemoryLayout → Page → (fixed changing : List ℕ) → (address byte : ℕ) → List ℕ

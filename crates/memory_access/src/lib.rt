@@ -4,31 +4,31 @@
 #![tactic(auto)]
 
 ghost use Rattle.std.specs.Prelude.{◌≡◌, ◌++◌, ◌+◌, ◌≤◌, ◌<◌, get_or, length};
+ghost use Rattle.base_shared.specs.Numbers.{number_of};
 ghost use Rattle.memory_pages.specs.Pages.{offset};
-ghost use Rattle.memory_access.specs.Access.{access_refusal, byte_at, peeked, plain_refusal, stored, viewed, written};
+ghost use Rattle.memory_access.specs.Access.{access_refusal, answered, byte_at, peeked, plain_refusal, stored, viewed, written};
 ghost use Rattle.memory_access.specs.Required.{Placed};
 
+use base_shared::Refusal;
 use memory_layout::MemoryLayout;
 use memory_pages::Page;
 
-// The number of the refusal that a call through page meets, 0 for none; others says whether what else it checks is in range.
-pub fn access_refusal(
+// What a call through page checks; others says whether what else it checks is in range.
+pub fn check_access(
     layout: MemoryLayout,
     page: Page,
     fixed: usize,
     changing: usize,
     others: bool,
-) -> u8
-    ensures { result ≡ access_refusal layout page fixed changing others }
+) -> Result<(), Refusal>
+    ensures { number_of result ≡ access_refusal layout page fixed changing others }
 {
-    let n = layout.refusal(fixed, changing);
-    if n != 0 {
-        return n;
+    let limited = layout.check(fixed, changing)?;
+    if others & limited.entry_in_range(page) {
+        Ok(())
+    } else {
+        Err(Refusal::Range)
     }
-    if others & layout.entry_in_range(page) {
-        return 0;
-    }
-    3
 }
 
 // The byte at a place counted from the fixed buffer on into the changing one.
@@ -36,11 +36,10 @@ fn byte_at(fixed: &[u8], changing: &[u8], at: usize) -> u8
     requires { at < length fixed.now + length changing.now }
     ensures { result ≡ get_or (fixed.now ++ changing.now) at 0 }
 {
-    if at < fixed.len() {
-        return fixed[at];
+    match at.checked_sub(fixed.len()) {
+        None => fixed[at],
+        Some(rest) => changing[rest],
     }
-    let rest = at - fixed.len();
-    changing[rest]
 }
 
 // The byte that addr shows through an entry that is checked already.
@@ -52,24 +51,40 @@ pub fn byte_shown(page: Page, fixed: &[u8], changing: &[u8], addr: u16) -> u8
     byte_at(fixed, changing, at)
 }
 
-// A byte that was asked for, 0 where it is refused, and the refusal's number.
+// A byte that was asked for, 0 where it is refused, and the refusal's number, as C reads it.
 #[repr(C)]
-#[derive(Clone, Copy)]
+#[derive(Clone, Copy, Debug, PartialEq, Eq)]
 pub struct Peeked {
     pub byte: u8,
     pub refusal: u8,
 }
 
-// The byte that addr shows through page.
-pub fn peek(layout: MemoryLayout, page: Page, fixed: &[u8], changing: &[u8], addr: u16) -> Peeked
-    ensures { result ≡ peeked layout page fixed.now changing.now addr }
-{
-    let refusal = access_refusal(layout, page, fixed.len(), changing.len(), true);
-    if refusal != 0 {
-        return Peeked { byte: 0, refusal };
+impl From<Result<u8, Refusal>> for Peeked {
+    ghost from_gives = { λ answer peeked. peeked ≡ answered answer };
+
+    fn from(answer: Result<u8, Refusal>) -> Peeked {
+        match answer {
+            Ok(byte) => Peeked { byte, refusal: 0 },
+            Err(refusal) => Peeked {
+                byte: 0,
+                refusal: u8::from(refusal),
+            },
+        }
     }
-    let byte = byte_shown(page, fixed, changing, addr);
-    Peeked { byte, refusal }
+}
+
+// The byte that addr shows through page.
+pub fn peek(
+    layout: MemoryLayout,
+    page: Page,
+    fixed: &[u8],
+    changing: &[u8],
+    addr: u16,
+) -> Result<u8, Refusal>
+    ensures { answered result ≡ peeked layout page fixed.now changing.now addr }
+{
+    check_access(layout, page, fixed.len(), changing.len(), true)?;
+    Ok(byte_shown(page, fixed, changing, addr))
 }
 
 // Stores a byte through an entry that is checked already; fixed is the fixed buffer's length.
@@ -83,7 +98,7 @@ pub fn store(page: Page, fixed: usize, changing: &mut [u8], addr: u16, val: u8)
     }
 }
 
-// Writes a byte to addr through page, and gives the refusal's number.
+// Writes a byte to addr through page.
 pub fn write(
     layout: MemoryLayout,
     page: Page,
@@ -91,29 +106,25 @@ pub fn write(
     changing: &mut [u8],
     addr: u16,
     val: u8,
-) -> u8
-    ensures value { result ≡ plain_refusal layout page fixed.now changing.old }
+) -> Result<(), Refusal>
+    ensures value { number_of result ≡ plain_refusal layout page fixed.now changing.old }
     ensures changing_after { changing.new ≡ written layout page fixed.now changing.old addr val }
 {
-    let refusal = access_refusal(layout, page, fixed.len(), changing.len(), true);
-    if refusal != 0 {
-        return refusal;
-    }
+    check_access(layout, page, fixed.len(), changing.len(), true)?;
     store(page, fixed.len(), changing, addr, val);
-    0
+    Ok(())
 }
 
 // Lends back the 1,024 bytes of page, from whichever buffer it points into; none where it is refused.
 pub fn view<'a>(layout: MemoryLayout, page: Page, fixed: &'a [u8], changing: &'a [u8]) -> &'a [u8]
     ensures { result.now ≡ viewed layout page fixed.now changing.now }
 {
-    if access_refusal(layout, page, fixed.len(), changing.len(), true) != 0 {
-        return &fixed[0..0];
+    if check_access(layout, page, fixed.len(), changing.len(), true).is_err() {
+        return &fixed[..0];
     }
     let at = page.offset() as usize;
-    if at < fixed.len() {
-        return &fixed[at..at + 1024];
+    match at.checked_sub(fixed.len()) {
+        None => &fixed[at..at + 1024],
+        Some(from) => &changing[from..from + 1024],
     }
-    let from = at - fixed.len();
-    &changing[from..from + 1024]
 }
