@@ -1,185 +1,154 @@
 // A row: the first bytes of a file, how many bytes it has, and what `read_header` must answer (oracle/FORMAT.md).
-use text_words::names::place_in;
-use text_words::next_word;
-use text_words::number::{Number, in_base};
+ghost use Rattle.std.specs.Prelude.{◌≤◌, IfOk};
+
+use base_shared::Refusal;
+use cartridge::Cartridge;
+use memory_layout::MemoryLayout;
+use std::fmt;
+use std::fmt::{Display, Formatter};
+use text_words::names::{Words, place_in};
+use text_words::number::{NumberError, in_base};
+use text_words::only_word;
+use vrc6_banking::banking::{Mirroring, Revision};
 
 // The longest file of a row.
 pub const LONGEST_FILE: usize = 600000;
 
-// A word that is not what it should be.
-const NO_VALUE: u32 = 0xFFFF_FFFF;
+// The largest number of an answer.
+const LARGEST: u32 = 0xFFFF_FFFE;
 
-// What is wrong with a line, by its place in the texts of `put_fault`; 0 is nothing.
-pub const NO_BYTES: usize = 1;
+// What is wrong with a line.
+#[derive(Clone, Copy, Debug, PartialEq, Eq)]
+pub enum RowError {
+    NoBytes,
+    NoLength,
+    NoEquals,
+    NoAnswer,
+}
 
-pub const NO_LENGTH: usize = 2;
-
-pub const NO_EQUALS: usize = 3;
-
-pub const NO_ANSWER: usize = 4;
+impl Display for RowError {
+    fn fmt<W: fmt::Write>(&self, f: &mut Formatter<W>) -> fmt::Result {
+        f.write_str(match *self {
+            RowError::NoBytes => {
+                "the first word is no bytes: two hexadecimal digits each, 16 bytes at most, - for none"
+            }
+            RowError::NoLength => "the second word is no length: 0 to 600000",
+            RowError::NoEquals => "the third word is not =",
+            RowError::NoAnswer => "behind = stands no answer: 5, 6, 7 or nine words",
+        })
+    }
+}
 
 #[derive(Clone, Copy)]
 pub struct Row {
     // The first bytes of the file; behind them it has zeros.
     pub head: [u8; 16],
     pub length: usize,
-    // The answer, by the numbers of cartridge_report.
-    pub answer: [u32; 10],
-    pub fault: usize,
+    pub answer: Result<Cartridge, Refusal>,
+    ghost fits: { length ≤ 600000 },
 }
 
-#[derive(Clone, Copy)]
-struct Head {
-    bytes: [u8; 16],
-    good: bool,
-}
-
-#[derive(Clone, Copy)]
-struct Answer {
-    numbers: [u32; 10],
-    good: bool,
-}
-
-fn value(number: Number) -> u32 {
-    match number {
-        Number::Value(n) => n,
-        Number::NoNumber => NO_VALUE,
-        Number::TooLarge => NO_VALUE,
-    }
-}
-
-// The byte of the two digits at a place; 0 behind the last.
-fn byte_from(word: &[u8], from: usize) -> u32 {
-    if word.len() <= from {
-        return 0;
-    }
-    if word.len() - from < 2 {
-        return NO_VALUE;
-    }
-    let to = from + 2;
-    value(in_base(&word[from..to], 16, 255))
+// The byte that two digits write.
+fn byte_of(digits: &[u8]) -> Option<u8> {
+    let value = in_base(digits, 16, 255).ok()?;
+    u8::try_from(value).ok()
 }
 
 // The bytes of a word, two digits each; - stands for none.
-fn read_head(word: &[u8]) -> Head {
-    let mut head = Head {
-        bytes: [0; 16],
-        good: word.len() <= 32,
-    };
-    if place_in(b"-", word) == 0 {
-        return head;
+fn head_of(word: &[u8]) -> Option<[u8; 16]> {
+    let mut head = [0; 16];
+    if word == b"-".as_slice() {
+        return Some(head);
     }
-    let mut i: usize = 0;
-    while i < 16 {
-        let byte = byte_from(word, 2 * i);
-        head.good = head.good & (byte != NO_VALUE);
-        head.bytes[i] = (byte % 256) as u8;
-        i += 1;
+    if word.len() > 32 || word.len() % 2 != 0 {
+        return None;
     }
-    head
+    for (byte, digits) in head.iter_mut().zip(word.chunks(2)) {
+        *byte = byte_of(digits)?;
+    }
+    Some(head)
 }
 
-// One of so many names, by its place.
-fn choice(names: &[u8], count: usize, word: &[u8]) -> u32 {
-    let place = place_in(names, word);
-    if place < count {
-        return (place % 256) as u32;
+fn length_of(word: &[u8]) -> Result<usize, RowError>
+    ensures { IfOk result (λ length. length ≤ 600000) }
+{
+    match in_base(word, 10, LONGEST_FILE as u32) {
+        Ok(length) => Ok((length as usize).min(LONGEST_FILE)),
+        Err(_) => Err(RowError::NoLength),
     }
-    NO_VALUE
 }
 
-// A word of an accepted file's answer, by its place.
-fn value_of(word: &[u8], place: usize) -> u32 {
-    match place {
-        2 => choice(b"rom ram", 2, word),
-        5 => choice(b"V H A B 4", 5, word),
-        6 => choice(b"A B", 2, word),
-        _ => value(in_base(word, 10, 0xFFFF_FFFE)),
-    }
+fn number_of(word: &[u8]) -> Option<u32> {
+    in_base(word, 10, LARGEST).ok()
+}
+
+fn mirroring_of(word: &[u8]) -> Option<Mirroring> {
+    let mirrorings = [
+        Mirroring::Vertical,
+        Mirroring::Horizontal,
+        Mirroring::SingleScreenA,
+        Mirroring::SingleScreenB,
+        Mirroring::FourScreen,
+    ];
+    mirrorings.get(place_in(b"V H A B 4", word)?).copied()
+}
+
+fn revision_of(word: &[u8]) -> Option<Revision> {
+    [Revision::A, Revision::B]
+        .get(place_in(b"A B", word)?)
+        .copied()
+}
+
+fn refusal_of(word: &[u8]) -> Option<Refusal> {
+    let refusals = [Refusal::NoHeader, Refusal::Mapper, Refusal::FileLength];
+    refusals.get(place_in(b"5 6 7", word)?).copied()
+}
+
+fn layout_of(words: &mut Words) -> Option<MemoryLayout> {
+    Some(MemoryLayout {
+        prg_rom: number_of(words.next()?)?,
+        chr: number_of(words.next()?)?,
+        chr_writable: place_in(b"rom ram", words.next()?)? == 1,
+        prg_ram: number_of(words.next()?)?,
+        ciram: number_of(words.next()?)?,
+    })
 }
 
 // The nine words of an accepted file's answer, and nothing behind them.
-fn read_nine(line: &[u8], start: usize) -> Answer {
-    let mut answer = Answer {
-        numbers: [0; 10],
-        good: true,
+fn cartridge_of(text: &[u8]) -> Option<Cartridge> {
+    let mut words = Words { text };
+    let cartridge = Cartridge {
+        layout: layout_of(&mut words)?,
+        mirroring: mirroring_of(words.next()?)?,
+        revision: revision_of(words.next()?)?,
+        prg_start: number_of(words.next()?)?,
+        chr_start: number_of(words.next()?)?,
     };
-    let mut at = start;
-    let mut i: usize = 0;
-    while i < 9 {
-        let word = next_word(line, at);
-        let from = word.from;
-        let to = word.to;
-        let value = value_of(&line[from..to], i);
-        answer.good = answer.good & (value != NO_VALUE);
-        answer.numbers[i + 1] = value;
-        at = to;
-        i += 1;
+    match words.next() {
+        Some(_) => None,
+        None => Some(cartridge),
     }
-    let behind = next_word(line, at);
-    answer.good = answer.good & (behind.from == behind.to);
-    answer
 }
 
 // A refusal's number, or nine words.
-fn read_answer(line: &[u8], start: usize) -> Answer {
-    let word = next_word(line, start);
-    let from = word.from;
-    let to = word.to;
-    let behind = next_word(line, to);
-    if behind.from != behind.to {
-        return read_nine(line, start);
-    }
-    let number = choice(b"5 6 7", 3, &line[from..to]);
-    if number == NO_VALUE {
-        return Answer {
-            numbers: [0; 10],
-            good: false,
-        };
-    }
-    Answer {
-        numbers: [number % 256 + 5, 0, 0, 0, 0, 0, 0, 0, 0, 0],
-        good: true,
+fn answer_of(text: &[u8]) -> Option<Result<Cartridge, Refusal>> {
+    match only_word(text) {
+        Some(word) => refusal_of(word).map(Err),
+        None => cartridge_of(text).map(Ok),
     }
 }
 
-// The first that is wrong.
-fn fault_of(bytes: bool, length: u32, equals: bool, answer: bool) -> usize {
-    if !bytes {
-        return NO_BYTES;
+pub(crate) fn read_row(line: &[u8]) -> Result<Row, RowError> {
+    let mut words = Words { text: line };
+    let head = words.next().and_then(head_of).ok_or(RowError::NoBytes)?;
+    let length = length_of(words.next().ok_or(RowError::NoLength)?)?;
+    if words.next() != Some(b"=".as_slice()) {
+        return Err(RowError::NoEquals);
     }
-    if length == NO_VALUE {
-        return NO_LENGTH;
-    }
-    if !equals {
-        return NO_EQUALS;
-    }
-    if !answer {
-        return NO_ANSWER;
-    }
-    0
-}
-
-pub(crate) fn read_row(line: &[u8]) -> Row {
-    let first = next_word(line, 0);
-    let first_from = first.from;
-    let first_to = first.to;
-    let second = next_word(line, first_to);
-    let second_from = second.from;
-    let second_to = second.to;
-    let third = next_word(line, second_to);
-    let third_from = third.from;
-    let third_to = third.to;
-    let head = read_head(&line[first_from..first_to]);
-    let length = value(in_base(&line[second_from..second_to], 10, LONGEST_FILE as u32));
-    let equals = place_in(b"=", &line[third_from..third_to]) == 0;
-    let answer = read_answer(line, third_to);
-    let bytes = head.bytes;
-    let numbers = answer.numbers;
-    Row {
-        head: bytes,
-        length: length as usize,
-        answer: numbers,
-        fault: fault_of(head.good, length, equals, answer.good),
-    }
+    let answer = answer_of(words.text).ok_or(RowError::NoAnswer)?;
+    Ok(Row {
+        head,
+        length,
+        answer,
+    })
 }

@@ -1,9 +1,6 @@
 pub mod Contents
-pub mod Held
-pub mod Quotes
 pub mod RoundTrip
 pub mod Rows
-pub mod Separating
 pub mod Spacing
-pub mod Spans
+pub mod Splits
 pub mod Walking

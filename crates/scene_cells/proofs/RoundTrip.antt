@@ -12,7 +12,17 @@ use Rattle.base_shared.proofs.Tests.{tested}
 use Rattle.scene_cells.specs.Cells.{behind_break, closed_to, ends_row, from_break, from_quote, is_break, quoted_cell, quoted_to, wrong_behind}
 use Rattle.scene_cells.specs.Laws.{BreakNext, RoundTripLaw, doubled}
 use Rattle.scene_cells.specs.Marks.{before}
-use Rattle.scene_cells.proofs.Quotes.{no_quote, single}
+use Rattle.std.proofs.Common.{Option, None}
+use Rattle.scene_cells.specs.declared.CellFault.{CellFault}
+
+-- a byte that is no quote is passed
+no_quote : (a : ℕ) (l : List ℕ) → eqb a 34 ≡ false → from_quote l ≡ from_quote (a ∷ l)
+no_quote a [] e = rw e
+no_quote a (b ∷ bs) e = rw e
+
+-- a quote before another byte closes
+single : (b : ℕ) (bs : List ℕ) → eqb b 34 ≡ false → from_quote (34 ∷ b ∷ bs) ≡ 34 ∷ b ∷ bs
+single b bs e = ap (λ (t : Bool). cond t (from_quote bs) (34 ∷ b ∷ bs)) e
 
 module _ (separator : ℕ) (plain : separator ≡ 34 → ⊥) where
   -- a text that begins with a separator or a line end begins with no quote
@@ -48,7 +58,7 @@ before_part s part =
     ap (λ (i : ℕ). take i (s ++ part)) n ∙ take_at s part (length s) refl
 
 -- nothing stands behind the closing quote
-nothing_behind : (text : List ℕ) → wrong_behind (length (before text text)) ≡ 0
+nothing_behind : (text : List ℕ) → wrong_behind (length (before text text)) ≡ None
 nothing_behind text = ap (λ (l : List ℕ). wrong_behind (length l)) (before_part [] text)
 
 pub round_trip : RoundTripLaw
@@ -57,4 +67,4 @@ round_trip separator plain bytes text h =
     ap (quoted_to separator (doubled bytes ++ (34 ∷ text))) (closes separator plain bytes text h)
     ∙ ap (closed_to (before (doubled bytes ++ (34 ∷ text)) (34 ∷ text)) text) (at_break separator plain text h)
     ∙ ap (λ (l : List ℕ). closed_to l text text) (before_part (doubled bytes) (34 ∷ text))
-    ∙ ap (λ (w : ℕ). record { bytes = doubled bytes; rest = behind_break text; quoted = true; last = ends_row text; wrong = w }) (nothing_behind text)
+    ∙ ap (λ (w : Option CellFault). record { bytes = doubled bytes; rest = behind_break text; quoted = true; last = ends_row text; wrong = w }) (nothing_behind text)

@@ -3,7 +3,7 @@ use mathlib.Core.Path.{refl}
 use Rattle.text_words.specs.Names.{place_in}
 use Rattle.scene_cells.specs.Cells.{plain_cell, quoted_cell}
 use Rattle.scene_cells.specs.Laws.{CellExamples, SeparatorExamples, SpaceExamples}
-use Rattle.scene_cells.specs.Separators.{named_in}
+use Rattle.scene_cells.specs.Rows.{cells_of}
 
 pub examples : CellExamples
 unfolding plain_cell quoted_cell place_in
@@ -35,7 +35,7 @@ examples =
     }
 
 pub separator_examples : SeparatorExamples
-unfolding plain_cell quoted_cell place_in named_in
+unfolding plain_cell quoted_cell place_in cells_of
 separator_examples =
     record {
       comma = refl;

@@ -8,7 +8,12 @@ use lib.ListN.{length, drop, get_or, set, length-append, length-drop}
 use lib.Seq.{append_snoc, get_or_at, set_at}
 use Rattle.base_shared.proofs.Tests.{tested}
 use Rattle.scene_cells.specs.Spaces.{SpacedAt, is_no_break, with_spaces}
-use Rattle.scene_cells.proofs.Spans.{from_byte}
+use native.Mathlib.Numerals.{add-one}
+use lib.Seq.{drop-cons}
+
+-- a byte, and the text from it on
+from_byte : (text : List ℕ) (i : ℕ) → i < length text → drop i text ≡ get_or text i 0 ∷ drop (i + 1) text
+from_byte text i k = rw (add-one, drop-cons text i 0)
 
 -- what is done at one place
 module _ (given : List ℕ) (at : ℕ) where

@@ -1,6 +1,9 @@
 -- What a cell of a sheet is, for the text from the cell's start on (RFC 4180). Assumes nothing.
-use Rattle.std.specs.Prelude.{Bool, true, false, cond, ◌&&◌, ◌||◌, List, [], ◌∷◌, ℕ, eqb, length, drop, get_or}
-use Rattle.scene_cells.specs.Marks.{before, from_taken}
+use Rattle.std.specs.Prelude.{Bool, true, false, cond, ◌&&◌, ◌||◌, List, [], ◌∷◌, ℕ, eqb, length, drop, get_or, Option, Some, None}
+use Rattle.text_words.specs.Words.{from_taken}
+use Rattle.scene_cells.specs.declared.CellFault.{CellFault}
+use Rattle.scene_cells.specs.declared.CellFault.TheVariants.{Unclosed, BehindQuote}
+use Rattle.scene_cells.specs.Marks.{before}
 
 -- a line feed or a carriage return (ASCII)
 abbrev pub is_line_end : ℕ → Bool
@@ -39,19 +42,19 @@ pub record Content : Type 0 where
   pub rest : List ℕ
   pub quoted : Bool
   pub last : Bool
-  pub wrong : ℕ
+  pub wrong : Option CellFault
 
 -- a plain cell that ends where the text is `stop` (RFC 4180)
 abbrev pub plain_to : (text stop : List ℕ) → Content
-plain_to text stop = record { bytes = before text stop; rest = behind_break stop; quoted = false; last = ends_row stop; wrong = 0 }
+plain_to text stop = record { bytes = before text stop; rest = behind_break stop; quoted = false; last = ends_row stop; wrong = None }
 
 -- a cell without quotes (RFC 4180)
 unfoldable pub plain_cell : (separator : ℕ) → List ℕ → Content
 plain_cell separator text = plain_to text (from_break separator text)
 
--- what is wrong with so many bytes behind the closing quote: 0 nothing, 2 that there are any (RFC 4180)
-abbrev pub wrong_behind : (count : ℕ) → ℕ
-wrong_behind count = cond (eqb count 0) 0 2
+-- what is wrong with so many bytes behind the closing quote: that there are any (RFC 4180)
+abbrev pub wrong_behind : (count : ℕ) → Option CellFault
+wrong_behind count = cond (eqb count 0) None (Some BehindQuote)
 
 -- a cell in quotes with the text behind its closing quote, up to where that is `stop` (RFC 4180)
 abbrev pub closed_to : (bytes text stop : List ℕ) → Content
@@ -65,7 +68,7 @@ closed_to bytes text stop = record {
 
 -- a cell in quotes that are closed where the text is `close` (RFC 4180)
 abbrev pub quoted_to : (separator : ℕ) → (text close : List ℕ) → Content
-quoted_to separator text [] = record { bytes = text; rest = []; quoted = true; last = true; wrong = 1 }
+quoted_to separator text [] = record { bytes = text; rest = []; quoted = true; last = true; wrong = Some Unclosed }
 quoted_to separator text (q ∷ behind) = closed_to (before text (q ∷ behind)) behind (from_break separator behind)
 
 -- a cell in quotes, for the text behind the first of them (RFC 4180)

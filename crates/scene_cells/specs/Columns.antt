@@ -1,12 +1,23 @@
 -- The columns of a sheet (docs/SCENES.md). Assumes nothing.
-use Rattle.std.specs.Prelude.{List, ℕ}
+use Rattle.std.specs.Prelude.{List, [], ◌∷◌, ℕ, Option, slice_get}
+use Rattle.std.specs.Option.{option_and_then}
 use Rattle.text_words.specs.Names.{codes, place_in}
 use Rattle.text_words.specs.Words.{only_word}
+use Rattle.scene_cells.specs.declared.columns.Column.{Column}
+use Rattle.scene_cells.specs.declared.columns.Column.TheVariants.{Scene, Prg, Chr, Revision, Mirroring, Writes, Window, Letters, Menu, File, At, Interrupts}
 
 -- the names of the columns (docs/SCENES.md)
-abbrev pub columns : List ℕ
-columns = codes "scene prg chr revision mirroring writes window letters menu file at interrupts"
+abbrev pub names : List ℕ
+names = codes "scene prg chr revision mirroring writes window letters menu file at interrupts"
 
--- the column that a cell names by its only word: the name's place, 12 for none (docs/SCENES.md)
-abbrev pub column_of : List ℕ → ℕ
-column_of cell = place_in columns (only_word cell)
+-- the columns, in the order of their names (docs/SCENES.md)
+abbrev pub columns : List Column
+columns = Scene ∷ Prg ∷ Chr ∷ Revision ∷ Mirroring ∷ Writes ∷ Window ∷ Letters ∷ Menu ∷ File ∷ At ∷ Interrupts ∷ []
+
+-- the column with a name (docs/SCENES.md)
+abbrev pub column_named : List ℕ → Option Column
+column_named word = option_and_then (slice_get columns) (place_in names word)
+
+-- the column that a cell names by its only word (docs/SCENES.md)
+abbrev pub column_of : List ℕ → Option Column
+column_of cell = option_and_then column_named (only_word cell)

@@ -1,6 +1,8 @@
 -- A quoted cell is read back, and examples of what the definitions give. Assumes nothing.
-use Rattle.std.specs.Prelude.{◌≡◌, true, false, cond, List, [], ◌∷◌, ◌++◌, ℕ, eqb}
+use Rattle.std.specs.Prelude.{◌≡◌, true, false, cond, List, [], ◌∷◌, ◌++◌, ℕ, eqb, Some, None}
 use Rattle.text_words.specs.Names.{codes}
+use Rattle.scene_cells.specs.declared.CellFault.TheVariants.{Unclosed, BehindQuote}
+use Rattle.scene_cells.specs.declared.columns.Column.TheVariants.{Menu, File, Interrupts}
 use Rattle.scene_cells.specs.Cells.{behind_break, cell_of, ends_row, is_break}
 use Rattle.scene_cells.specs.Choices.{interrupts_of, mirroring_of, revision_of}
 use Rattle.scene_cells.specs.Columns.{column_of}
@@ -23,38 +25,38 @@ abbrev pub RoundTripLaw : Type 0
 RoundTripLaw =
     (separator : ℕ) → (separator ≡ 34 → ⊥) → (bytes text : List ℕ) → BreakNext separator text
     → cell_of separator (34 ∷ (doubled bytes ++ (34 ∷ text)))
-    ≡ record { bytes = doubled bytes; rest = behind_break text; quoted = true; last = ends_row text; wrong = 0 }
+    ≡ record { bytes = doubled bytes; rest = behind_break text; quoted = true; last = ends_row text; wrong = None }
 
 -- cells and names (docs/SCENES.md)
 pub record CellExamples : Type 0 where
   -- comma, semicolon and tab between cells; a comma inside a cell where another byte separates
-  pub plain : cell_of 44 (codes "a,b") ≡ record { bytes = codes "a"; rest = codes "b"; quoted = false; last = false; wrong = 0 }
-  pub semicolon : cell_of 59 (codes "a,b;c") ≡ record { bytes = codes "a,b"; rest = codes "c"; quoted = false; last = false; wrong = 0 }
-  pub tab : cell_of 9 (codes "a,b\tc") ≡ record { bytes = codes "a,b"; rest = codes "c"; quoted = false; last = false; wrong = 0 }
+  pub plain : cell_of 44 (codes "a,b") ≡ record { bytes = codes "a"; rest = codes "b"; quoted = false; last = false; wrong = None }
+  pub semicolon : cell_of 59 (codes "a,b;c") ≡ record { bytes = codes "a,b"; rest = codes "c"; quoted = false; last = false; wrong = None }
+  pub tab : cell_of 9 (codes "a,b\tc") ≡ record { bytes = codes "a,b"; rest = codes "c"; quoted = false; last = false; wrong = None }
   -- line ends: LF, CR LF and CR, behind a plain cell and behind one in quotes
-  pub line_feed : cell_of 44 (codes "a\nb") ≡ record { bytes = codes "a"; rest = codes "b"; quoted = false; last = true; wrong = 0 }
-  pub row_end : cell_of 44 (codes "a\r\nb") ≡ record { bytes = codes "a"; rest = codes "b"; quoted = false; last = true; wrong = 0 }
-  pub return_alone : cell_of 44 (codes "a\rb") ≡ record { bytes = codes "a"; rest = codes "b"; quoted = false; last = true; wrong = 0 }
-  pub two_rows : cell_of 44 (codes "a\r\r\n") ≡ record { bytes = codes "a"; rest = codes "\r\n"; quoted = false; last = true; wrong = 0 }
-  pub quoted_row_end : cell_of 59 (codes "\"a;\r\"\r\nb") ≡ record { bytes = codes "a;\r"; rest = codes "b"; quoted = true; last = true; wrong = 0 }
+  pub line_feed : cell_of 44 (codes "a\nb") ≡ record { bytes = codes "a"; rest = codes "b"; quoted = false; last = true; wrong = None }
+  pub row_end : cell_of 44 (codes "a\r\nb") ≡ record { bytes = codes "a"; rest = codes "b"; quoted = false; last = true; wrong = None }
+  pub return_alone : cell_of 44 (codes "a\rb") ≡ record { bytes = codes "a"; rest = codes "b"; quoted = false; last = true; wrong = None }
+  pub two_rows : cell_of 44 (codes "a\r\r\n") ≡ record { bytes = codes "a"; rest = codes "\r\n"; quoted = false; last = true; wrong = None }
+  pub quoted_row_end : cell_of 59 (codes "\"a;\r\"\r\nb") ≡ record { bytes = codes "a;\r"; rest = codes "b"; quoted = true; last = true; wrong = None }
   -- no quote closes the cell; a byte stands behind the quote that does
-  pub unclosed : cell_of 44 (codes "\"a,\"\"b") ≡ record { bytes = codes "a,\"\"b"; rest = []; quoted = true; last = true; wrong = 1 }
-  pub behind_quote : cell_of 44 (codes "\"a\"b,") ≡ record { bytes = codes "a"; rest = []; quoted = true; last = false; wrong = 2 }
+  pub unclosed : cell_of 44 (codes "\"a,\"\"b") ≡ record { bytes = codes "a,\"\"b"; rest = []; quoted = true; last = true; wrong = Some Unclosed }
+  pub behind_quote : cell_of 44 (codes "\"a\"b,") ≡ record { bytes = codes "a"; rest = []; quoted = true; last = false; wrong = Some BehindQuote }
   -- names of columns, one with blanks around it
-  pub column : column_of (codes "Menu") ≡ 8
-  pub blanks : column_of (codes " file\t") ≡ 9
-  pub last_column : column_of (codes "interrupts") ≡ 11
-  pub no_column : column_of (codes "menus") ≡ 12
-  pub two_words : column_of (codes "menu file") ≡ 12
-  pub no_word : column_of (codes " ") ≡ 12
+  pub column : column_of (codes "Menu") ≡ Some Menu
+  pub blanks : column_of (codes " file\t") ≡ Some File
+  pub last_column : column_of (codes "interrupts") ≡ Some Interrupts
+  pub no_column : column_of (codes "menus") ≡ None
+  pub two_words : column_of (codes "menu file") ≡ None
+  pub no_word : column_of (codes " ") ≡ None
   -- choices
-  pub revision : revision_of (codes "B") ≡ 1
-  pub no_revision : revision_of (codes "C") ≡ 2
-  pub mirroring : mirroring_of (codes "B") ≡ 3
-  pub no_mirroring : mirroring_of (codes "C") ≡ 5
-  pub masked : interrupts_of (codes "Masked") ≡ 0
-  pub open_choice : interrupts_of (codes "open") ≡ 1
-  pub no_choice : interrupts_of (codes "on") ≡ 2
+  pub revision : revision_of (codes "B") ≡ Some 1
+  pub no_revision : revision_of (codes "C") ≡ None
+  pub mirroring : mirroring_of (codes "B") ≡ Some 3
+  pub no_mirroring : mirroring_of (codes "C") ≡ None
+  pub masked : interrupts_of (codes "Masked") ≡ Some 0
+  pub open_choice : interrupts_of (codes "open") ≡ Some 1
+  pub no_choice : interrupts_of (codes "on") ≡ None
 
 -- separators of headers, and lines that give one (docs/SCENES.md)
 pub record SeparatorExamples : Type 0 where

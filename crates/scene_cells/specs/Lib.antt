@@ -1,9 +1,9 @@
 pub mod Cells
 pub mod Choices
 pub mod Columns
+pub mod Contents
 pub mod Laws
 pub mod Marks
-pub mod Places
 pub mod Rows
 pub mod Separators
 pub mod Spaces

@@ -1,10 +1,6 @@
 -- A text before and behind the first byte of a kind. Assumes nothing.
-use Rattle.std.specs.Prelude.{◌≡◌, Bool, cond, List, [], ◌∷◌, ℕ, ◌-◌, ◌≤◌, eqb, length, take, drop}
-
--- a text from its first byte on that a test takes; nothing where it has none
-abbrev pub from_taken : (test : ℕ → Bool) → List ℕ → List ℕ
-from_taken test [] = []
-from_taken test (b ∷ bs) = cond (test b) (b ∷ bs) (from_taken test bs)
+use Rattle.std.specs.Prelude.{◌≡◌, false, List, ℕ, ◌-◌, eqb, length, take, drop}
+use Rattle.text_words.specs.Words.{from_taken}
 
 -- what stands in a text before its last part
 abbrev pub before : (text part : List ℕ) → List ℕ
@@ -22,8 +18,8 @@ before_mark mark s = before s (from_mark mark s)
 abbrev pub behind_mark : (mark : ℕ) → List ℕ → List ℕ
 behind_mark mark s = drop 1 (from_mark mark s)
 
--- the place, from another on, where the text is what a rule leaves of it
-pub record PlaceOf (rule : List ℕ → List ℕ) (text : List ℕ) (from at : ℕ) : Type 0 where
-  pub behind : from ≤ at
-  pub within : at ≤ length text
-  pub rest : drop at text ≡ rule (drop from text)
+-- a text has the mark, and is split at the first
+pub record SplitAt (mark : ℕ) (text front behind : List ℕ) : Type 0 where
+  pub there : eqb (length (from_mark mark text)) 0 ≡ false
+  pub head : front ≡ before_mark mark text
+  pub tail : behind ≡ behind_mark mark text

@@ -1,49 +1,41 @@
 -- The cells of a row, for the text from the row's start on. Assumes nothing.
-use Rattle.std.specs.Prelude.{◌≡◌, true, false, cond, List, [], ℕ, zero, suc, ◌≤◌, ◌<◌, length, drop}
+use Rattle.std.specs.Prelude.{◌≡◌, cond, List, [], ◌∷◌, ℕ, zero, suc, ◌+◌, ◌<◌, length, Option, Some, None, option_map, slice_get}
+use Rattle.std.specs.Option.{option_and_then, option_map_or}
+use denote.Ref.{Bor}
 use Rattle.scene_cells.specs.declared.Cell.{Cell}
-use Rattle.scene_cells.specs.declared.lookup.Found.{Found}
-use Rattle.scene_cells.specs.declared.lookup.Found.TheVariants.{At, Missing}
+use Rattle.scene_cells.specs.declared.columns.Column.{Column}
 use Rattle.scene_cells.specs.Cells.{Content, cell_of}
 use Rattle.scene_cells.specs.Columns.{column_of}
-use Rattle.scene_cells.specs.Places.{content_in}
+use Rattle.scene_cells.specs.Contents.{content}
 
--- a cell that a row does not have (docs/SCENES.md)
-abbrev pub no_cell : Content
-no_cell = record { bytes = []; rest = []; quoted = false; last = true; wrong = 0 }
+-- a row's first n cells (RFC 4180)
+abbrev pub cells_in : (n separator : ℕ) → List ℕ → List Content
+cells_in zero separator s = []
+cells_in (suc n) separator s = cell_of separator s ∷ cond (cell_of separator s).last [] (cells_in n separator (cell_of separator s).rest)
 
--- the cell k places behind a row's first; one that it does not have where the row ends before (RFC 4180)
-abbrev pub nth_cell : (separator k : ℕ) → List ℕ → Content
-nth_cell separator zero s = cell_of separator s
-nth_cell separator (suc k) s = cond (cell_of separator s).last no_cell (nth_cell separator k (cell_of separator s).rest)
+-- a row's cells; it has at most one cell more than bytes (RFC 4180)
+unfoldable pub cells_of : (separator : ℕ) → List ℕ → List Content
+cells_of separator row = cells_in (length row + 1) separator row
 
--- the row has that cell (RFC 4180)
-abbrev pub InRow : (separator k : ℕ) → List ℕ → Type 0
-InRow separator zero s = Unit {0}
-InRow separator (suc k) s = ((cell_of separator s).last ≡ false) × InRow separator k (cell_of separator s).rest
+-- the cells from a text on, if there is one left
+abbrev pub cells_left : (separator : ℕ) → Option (Bor (List ℕ)) → List Content
+cells_left separator row = option_map_or (λ s. cells_of separator s.now) row []
 
--- the places of a cell with some content: in order and within the text (docs/SCENES.md)
-pub record HeldIn (text : List ℕ) (content : Content) (cell : Cell) : Type 0 where
-  pub order : cell.from ≤ cell.to
-  pub within : cell.to ≤ length text
-  pub holds : content_in text cell ≡ content
+-- the cell k places behind a row's first; none where the row ends before (RFC 4180)
+abbrev pub nth_cell : (separator k : ℕ) → List ℕ → Option Content
+nth_cell separator k row = slice_get (cells_of separator row) k
 
--- the cell k places behind a row's first has the name of a column (docs/SCENES.md)
-abbrev pub NameAt : (separator column k : ℕ) → List ℕ → Type 0
-NameAt separator column k s = column_of (nth_cell separator k s).bytes ≡ column
+-- the cell k places behind a row's first is there and has the name of a column (docs/SCENES.md)
+abbrev pub NameAt : (separator : ℕ) (column : Column) (k : ℕ) → List ℕ → Type 0
+NameAt separator column k row = option_and_then (λ (c : Content). column_of c.bytes) (nth_cell separator k row) ≡ Some column
 
 -- the first cell of a row with the name of a column, or that none has it (docs/SCENES.md)
-abbrev pub FoundIn : (separator column : ℕ) → List ℕ → Found → Type 0
-FoundIn separator column s (At k) =
-    (InRow separator k s) × (NameAt separator column k s) × ((j : ℕ) → j < k → NameAt separator column j s → ⊥)
-FoundIn separator column s Missing = (k : ℕ) → InRow separator k s → NameAt separator column k s → ⊥
+abbrev pub FoundIn : (separator : ℕ) (column : Column) → List ℕ → Option ℕ → Type 0
+FoundIn separator column row (Some k) = NameAt separator column k row × ((j : ℕ) → j < k → NameAt separator column j row → ⊥)
+FoundIn separator column row None = (k : ℕ) → NameAt separator column k row → ⊥
 
--- the cell of a row at the place of a column (docs/SCENES.md)
-abbrev pub cell_there : (separator : ℕ) → Found → List ℕ → Content
-cell_there separator (At k) s = nth_cell separator k s
-cell_there separator Missing s = no_cell
-
--- the cell of the row at `row` under the first cell of the header that has the name of a column (docs/SCENES.md)
-pub record CellUnder (text : List ℕ) (separator header row column : ℕ) (cell : Cell) : Type 0 where
-  pub place : Found
-  pub named : FoundIn separator column (drop header text) place
-  pub held : HeldIn text (cell_there separator place (drop row text)) cell
+-- the cell of a row under the first cell of the header that has the name of a column (docs/SCENES.md)
+pub record CellUnder (separator : ℕ) (header row : List ℕ) (column : Column) (cell : Option Cell) : Type 0 where
+  pub place : Option ℕ
+  pub named : FoundIn separator column header place
+  pub held : option_map content cell ≡ option_and_then (λ (k : ℕ). nth_cell separator k row) place

@@ -2,44 +2,69 @@
 ghost use Rattle.std.specs.Prelude.{◌≡◌};
 ghost use Rattle.scene_cells.specs.Columns.{column_of};
 
+use std::fmt;
 use text_words::names::place_in;
 use text_words::only_word;
 
-pub const SCENE: u8 = 0;
+#[derive(Clone, Copy, PartialEq, Eq, Debug)]
+pub enum Column {
+    Scene,
+    Prg,
+    Chr,
+    Revision,
+    Mirroring,
+    Writes,
+    Window,
+    Letters,
+    Menu,
+    File,
+    At,
+    Interrupts,
+}
 
-pub const PRG: u8 = 1;
-
-pub const CHR: u8 = 2;
-
-pub const REVISION: u8 = 3;
-
-pub const MIRRORING: u8 = 4;
-
-pub const WRITES: u8 = 5;
-
-pub const WINDOW: u8 = 6;
-
-pub const LETTERS: u8 = 7;
-
-pub const MENU: u8 = 8;
-
-pub const FILE: u8 = 9;
-
-pub const AT: u8 = 10;
-
-pub const INTERRUPTS: u8 = 11;
-
-pub const NO_COLUMN: u8 = 12;
+// The columns, in the order of their names below.
+pub const COLUMNS: [Column; 12] = [
+    Column::Scene,
+    Column::Prg,
+    Column::Chr,
+    Column::Revision,
+    Column::Mirroring,
+    Column::Writes,
+    Column::Window,
+    Column::Letters,
+    Column::Menu,
+    Column::File,
+    Column::At,
+    Column::Interrupts,
+];
 
 // The column that a cell of the first row names by its only word.
-pub fn column_of(cell: &[u8]) -> u8
+pub fn column_of(cell: &[u8]) -> Option<Column>
     ensures { result ≡ column_of cell.now }
 {
-    let word = only_word(cell);
-    let from = word.from;
-    let to = word.to;
-    place_in(
+    let place = place_in(
         b"scene prg chr revision mirroring writes window letters menu file at interrupts",
-        &cell[from..to],
-    ) as u8
+        only_word(cell)?,
+    )?;
+    COLUMNS.get(place).copied()
+}
+
+impl fmt::Display for Column {
+    fn fmt<W: fmt::Write>(&self, f: &mut fmt::Formatter<W>) -> fmt::Result {
+        let name = match self {
+            Column::Scene => "scene",
+            Column::Prg => "prg",
+            Column::Chr => "chr",
+            Column::Revision => "revision",
+            Column::Mirroring => "mirroring",
+            Column::Writes => "writes",
+            Column::Window => "window",
+            Column::Letters => "letters",
+            Column::Menu => "menu",
+            Column::File => "file",
+            Column::At => "at",
+            Column::Interrupts => "interrupts",
+        };
+        f.write_str(name)
+    }
 }

@@ -9,187 +9,130 @@ pub mod marks;
 pub mod separators;
 pub mod spaces;
 
-ghost use Rattle.std.specs.Prelude.{◌≡◌, ◌≤◌, ◌<◌, ◌+◌, ◌-◌, drop, get_or, length};
-ghost use Rattle.scene_cells.specs.Cells.{cell_of, ends_row, from_break, from_quote, plain_cell, quoted_cell, wrong_behind};
-ghost use Rattle.scene_cells.specs.Marks.{PlaceOf};
-ghost use Rattle.scene_cells.specs.Places.{Behind, CellAt, Passing};
+ghost use Rattle.std.specs.Prelude.{◌≡◌, ◌≤◌, drop, length};
+ghost use Rattle.scene_cells.specs.Cells.{behind_break, cell_of, closed_to, ends_row, from_break, from_quote, plain_cell, quoted_cell};
+ghost use Rattle.scene_cells.specs.Contents.{content};
 
 // What is wrong with a cell.
-pub const UNCLOSED: u8 = 1;
+#[derive(Clone, Copy, PartialEq, Eq, Debug)]
+pub enum CellFault {
+    // No quote closes it.
+    Unclosed,
+    // There are bytes behind the closing quote.
+    BehindQuote,
+}
 
-pub const BEHIND_QUOTE: u8 = 2;
-
-// A cell's bytes, inside its quotes if it has any; where the next cell or row starts; whether it is its row's last.
+// A cell's bytes, inside its quotes if it has any; the text behind it, where the next cell or row starts; whether it is its row's
+// last.
 #[derive(Clone, Copy)]
-pub struct Cell {
-    pub from: usize,
-    pub to: usize,
-    pub next: usize,
+pub struct Cell<'a> {
+    pub bytes: &'a [u8],
+    pub rest: &'a [u8],
     pub quoted: bool,
     pub last: bool,
-    pub wrong: u8,
+    pub wrong: Option<CellFault>,
 }
 
-// The first separator or line end from `from` on; the text's end where there is none.
-fn break_from(text: &[u8], from: usize, separator: u8) -> usize
-    requires { from ≤ length text.now }
-    ensures { PlaceOf (from_break separator) text.now from result }
+// How many bytes of a text stand before its first separator or line end.
+fn before_break(text: &[u8], separator: u8) -> usize
+    ensures bound { result ≤ length text.now }
+    ensures cut { drop result text.now ≡ from_break separator text.now }
 {
-    let mut i = from;
-    while i < text.len() {
-        if (text[i] == separator) | ((text[i] == b'\n') | (text[i] == b'\r')) {
-            return i;
+    text.iter()
+        .position(|b| (*b == separator) | ((*b == b'\n') | (*b == b'\r')))
+        .unwrap_or(text.len())
+}
+
+// A text from the quote on that closes a cell; nothing where none does. A doubled quote is passed.
+fn from_quote(text: &[u8]) -> &[u8]
+    ensures { result.now ≡ from_quote text.now }
+{
+    let mut rest = text;
+    loop {
+        match rest {
+            [b'"', b'"', behind @ ..] => rest = behind,
+            [] | [b'"', ..] => return rest,
+            [_, behind @ ..] => rest = behind,
         }
-        i += 1;
     }
-    i
-}
-
-// How many bytes to pass on the way to the closing quote: none at that quote, both of a doubled quote, and one elsewhere.
-fn passed_at(text: &[u8], at: usize) -> usize
-    requires { at < length text.now }
-    ensures { Passing text.now at result }
-{
-    if text[at] != b'"' {
-        return 1;
-    }
-    if text.len() - at == 1 {
-        return 0;
-    }
-    if text[at + 1] != b'"' {
-        return 0;
-    }
-    2
-}
-
-// The quote that closes a cell whose bytes start at `from`; the text's end where there is none.
-fn closing_quote(text: &[u8], from: usize) -> usize
-    requires { from ≤ length text.now }
-    ensures { PlaceOf from_quote text.now from result }
-{
-    let mut i = from;
-    while i < text.len() {
-        let n = passed_at(text, i);
-        if n == 0 {
-            return i;
-        }
-        i += n;
-    }
-    i
 }
 
 // A row's end: the text's, a line feed or a carriage return.
-pub(crate) fn ends_row(text: &[u8], at: usize) -> bool
-    ensures { result ≡ ends_row (drop at text.now) }
+pub(crate) fn ends_row(text: &[u8]) -> bool
+    ensures { result ≡ ends_row text.now }
 {
-    if at < text.len() {
-        return (text[at] == b'\n') | (text[at] == b'\r');
+    match text {
+        [b, ..] => (*b == b'\n') | (*b == b'\r'),
+        [] => true,
     }
-    true
 }
 
-// A byte of the text; 0 behind its end.
-fn byte_at(text: &[u8], at: usize) -> u8
-    ensures { result ≡ get_or text.now at 0 }
+// A text behind the separator or line end that it begins with, behind both bytes of CR LF.
+pub(crate) fn behind_break(text: &[u8]) -> &[u8]
+    ensures { result.now ≡ behind_break text.now }
 {
-    if at < text.len() {
-        return text[at];
+    match text {
+        [b'\r', b'\n', rest @ ..] => rest,
+        [_, rest @ ..] => rest,
+        [] => text,
     }
-    0
 }
 
-// The place behind a separator or a line end, and behind both bytes of CR LF; the text's end where there is none.
-pub(crate) fn after(text: &[u8], at: usize) -> usize
-    requires { at ≤ length text.now }
-    ensures { Behind text.now at result }
+fn plain_cell(text: &[u8], separator: u8) -> Cell<'_>
+    ensures { content result ≡ plain_cell separator text.now }
 {
-    if at == text.len() {
-        return at;
-    }
-    let next = at + 1;
-    if (text[at] == b'\r') & (byte_at(text, next) == b'\n') {
-        return next + 1;
-    }
-    next
-}
-
-// What is wrong with the bytes between the closing quote and the next separator or line end.
-fn wrong_behind(from: usize, to: usize) -> u8
-    requires { from ≤ to }
-    ensures { result ≡ wrong_behind (to - from) }
-{
-    if to - from == 0 {
-        return 0;
-    }
-    BEHIND_QUOTE
-}
-
-fn plain_cell(text: &[u8], start: usize, separator: u8) -> Cell
-    requires { start ≤ length text.now }
-    ensures { CellAt text.now start (plain_cell separator (drop start text.now)) result }
-{
-    let to = break_from(text, start, separator);
-    let next = after(text, to);
-    let last = ends_row(text, to);
+    let (bytes, stop) = text.split_at(before_break(text, separator));
     Cell {
-        from: start,
-        to,
-        next,
+        bytes,
+        rest: behind_break(stop),
         quoted: false,
-        last,
-        wrong: 0,
+        last: ends_row(stop),
+        wrong: None,
     }
 }
 
-// A cell whose opening quote is at `start`.
-fn quoted_cell(text: &[u8], start: usize, separator: u8) -> Cell
-    requires { start < length text.now }
-    ensures { CellAt text.now start (quoted_cell separator (drop (start + 1) text.now)) result }
+// A cell in quotes, whose closing quote has this text behind it.
+fn closed_cell<'a>(bytes: &'a [u8], text: &'a [u8], separator: u8) -> Cell<'a>
+    ensures { content result ≡ closed_to bytes.now text.now (from_break separator text.now) }
 {
-    let from = start + 1;
-    let close = closing_quote(text, from);
-    if close == text.len() {
-        return Cell {
-            from,
-            to: close,
-            next: close,
-            quoted: true,
-            last: true,
-            wrong: UNCLOSED,
-        };
-    }
-    let behind = close + 1;
-    let stop = break_from(text, behind, separator);
-    let next = after(text, stop);
-    let last = ends_row(text, stop);
-    let wrong = wrong_behind(behind, stop);
+    let (between, stop) = text.split_at(before_break(text, separator));
+    let wrong = if between.is_empty() {
+        None
+    } else {
+        Some(CellFault::BehindQuote)
+    };
     Cell {
-        from,
-        to: close,
-        next,
+        bytes,
+        rest: behind_break(stop),
         quoted: true,
-        last,
+        last: ends_row(stop),
         wrong,
     }
 }
 
-// The cell that starts at `start`, where `separator` stands between cells.
-pub fn cell_at(text: &[u8], start: usize, separator: u8) -> Cell
-    ensures { CellAt text.now start (cell_of separator (drop start text.now)) result }
+// A cell in quotes, for the text behind the first of them.
+fn quoted_cell(text: &[u8], separator: u8) -> Cell<'_>
+    ensures { content result ≡ quoted_cell separator text.now }
 {
-    let end = text.len();
-    if end <= start {
-        return Cell {
-            from: end,
-            to: end,
-            next: end,
-            quoted: false,
+    let close = from_quote(text);
+    match close {
+        [_, behind @ ..] => closed_cell(&text[..text.len() - close.len()], behind, separator),
+        [] => Cell {
+            bytes: text,
+            rest: close,
+            quoted: true,
             last: true,
-            wrong: 0,
-        };
+            wrong: Some(CellFault::Unclosed),
+        },
     }
-    if text[start] == b'"' {
-        return quoted_cell(text, start, separator);
+}
+
+// The cell that a text begins with, where `separator` stands between cells.
+pub fn cell_at(text: &[u8], separator: u8) -> Cell<'_>
+    ensures { content result ≡ cell_of separator text.now }
+{
+    match text {
+        [b'"', rest @ ..] => quoted_cell(rest, separator),
+        _ => plain_cell(text, separator),
     }
-    plain_cell(text, start, separator)
 }

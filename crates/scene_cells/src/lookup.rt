@@ -1,74 +1,68 @@
-// The cells of a row by their place, and the place of a column in the header.
-ghost use Rattle.std.specs.Prelude.{drop};
-ghost use Rattle.scene_cells.specs.Rows.{CellUnder, FoundIn, HeldIn, no_cell, nth_cell};
+// The cells of a row, one after the other or by their place, and the place of a column in the header.
+ghost use Rattle.std.specs.Prelude.{◌≡◌, option_map};
+ghost use Rattle.std.specs.Iterator.{YieldsFirstBy, item_count};
+ghost use Rattle.scene_cells.specs.Contents.{content};
+ghost use Rattle.scene_cells.specs.Rows.{CellUnder, FoundIn, cells_left, cells_of, nth_cell};
 
-use crate::columns::column_of;
+use crate::columns::{Column, column_of};
 use crate::{Cell, cell_at};
 
-// Where the header has a column: how many cells stand before it.
+// The cells of a row; `row` is the text from the next of them on, as long as there is one.
 #[derive(Clone, Copy)]
-pub enum Found {
-    At(usize),
-    Missing,
+pub struct Cells<'a> {
+    pub row: Option<&'a [u8]>,
+    pub separator: u8,
 }
 
-fn no_cell(text: &[u8]) -> Cell
-    ensures { HeldIn text.now no_cell result }
-{
-    Cell {
-        from: 0,
-        to: 0,
-        next: text.len(),
-        quoted: false,
-        last: true,
-        wrong: 0,
-    }
-}
-
-// The cell of the row at `row` that has k cells before it.
-pub fn nth_cell(text: &[u8], row: usize, k: usize, separator: u8) -> Cell
-    ensures { HeldIn text.now (nth_cell separator k (drop row text.now)) result }
-{
-    let mut at = row;
-    let mut left = k;
-    while left > 0 {
-        let cell = cell_at(text, at, separator);
-        if cell.last {
-            return no_cell(text);
+impl<'a> Cells<'a> {
+    // The cells of the row that a text begins with.
+    pub fn new(row: &'a [u8], separator: u8) -> Cells<'a>
+        ensures { cells_left result.separator result.row ≡ cells_of separator row.now }
+    {
+        Cells {
+            row: Some(row),
+            separator,
         }
-        at = cell.next;
-        left -= 1;
-    }
-    cell_at(text, at, separator)
-}
-
-// The first cell of the header at `header` with the name of a column.
-pub fn find_column(text: &[u8], header: usize, column: u8, separator: u8) -> Found
-    ensures { FoundIn separator column (drop header text.now) result }
-{
-    let mut at = header;
-    let mut k: usize = 0;
-    loop {
-        let cell = cell_at(text, at, separator);
-        let from = cell.from;
-        let to = cell.to;
-        if column_of(&text[from..to]) == column {
-            return Found::At(k);
-        }
-        if cell.last {
-            return Found::Missing;
-        }
-        at = cell.next;
-        k += 1;
     }
 }
 
-// The cell of the row at `row` in a column that the header at `header` names; an empty one where either lacks it.
-pub fn cell_under(text: &[u8], header: usize, row: usize, column: u8, separator: u8) -> Cell
-    ensures { CellUnder text.now separator header row column result }
-{
-    match find_column(text, header, column, separator) {
-        Found::At(k) => nth_cell(text, row, k, separator),
-        Found::Missing => no_cell(text),
+impl<'a> Iterator for Cells<'a> {
+    type Item = Cell<'a>;
+
+    ghost next_gives = { YieldsFirstBy content (λ s. cells_left s.separator s.row) };
+
+    ghost remaining = { item_count (λ s. cells_left s.separator s.row) };
+
+    #[tactic(auto, using(crate::proofs::Walking::step))]
+    fn next(&mut self) -> Option<Cell<'a>> {
+        let cell = cell_at(self.row?, self.separator);
+        self.row = (!cell.last).then_some(cell.rest);
+        Some(cell)
     }
+}
+
+// The cell of a row that has k cells before it.
+pub fn nth_cell(row: &[u8], k: usize, separator: u8) -> Option<Cell<'_>>
+    ensures { option_map content result ≡ nth_cell separator k row.now }
+{
+    Cells::new(row, separator).nth(k)
+}
+
+// How many cells stand before the first cell of a row, the header, with the name of a column.
+pub fn find_column(row: &[u8], column: Column, separator: u8) -> Option<usize>
+    ensures { FoundIn separator column row.now result }
+{
+    Cells::new(row, separator).position(|cell| column_of(cell.bytes) == Some(column))
+}
+
+// The cell of a row in a column that the header names.
+pub fn cell_under<'a>(
+    header: &[u8],
+    row: &'a [u8],
+    column: Column,
+    separator: u8,
+) -> Option<Cell<'a>>
+    ensures { CellUnder separator header.now row.now column result }
+{
+    nth_cell(row, find_column(header, column, separator)?, separator)
 }

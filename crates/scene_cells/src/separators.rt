@@ -1,51 +1,35 @@
 // The separator of a sheet: the one that its first line gives, or the one by which its header names the most columns.
-ghost use Rattle.std.specs.Prelude.{◌≡◌, ◌≤◌, drop};
-ghost use Rattle.scene_cells.specs.Separators.{SepLineAt, can_separate, named_in, names_column, separator_of};
+ghost use Rattle.std.specs.Prelude.{◌≡◌};
+ghost use Rattle.scene_cells.specs.Separators.{SepLineAt, can_separate, named_in, separator_of};
 
-use crate::columns::{NO_COLUMN, column_of};
-use crate::{after, cell_at, ends_row};
+use crate::columns::column_of;
+use crate::lookup::Cells;
+use crate::{behind_break, ends_row};
 use text_words::names::same_name;
 
-// Excel's first line `sep=;`: the separator, and where the header starts behind it.
+// Excel's first line `sep=;`: the separator, and the text behind the line, where the header starts.
 #[derive(Clone, Copy)]
-pub enum SepLine {
-    Given(u8, usize),
-    None,
+pub struct SepLine<'a> {
+    pub separator: u8,
+    pub rest: &'a [u8],
 }
 
-// 1 for a cell that names a column, 0 for another.
-fn names_column(cell: &[u8]) -> usize
-    ensures { (result ≡ names_column cell.now) × (result ≤ 1) }
+// How many cells of a row name a column.
+fn named_in(row: &[u8], separator: u8) -> usize
+    ensures { result ≡ named_in separator row.now }
 {
-    (column_of(cell) < NO_COLUMN) as usize
+    Cells::new(row, separator)
+        .filter(|cell| column_of(cell.bytes).is_some())
+        .count()
 }
 
-// How many cells of the row at `row` name a column.
-fn named_in(text: &[u8], row: usize, separator: u8) -> usize
-    ensures { result ≡ named_in separator (drop row text.now) }
+// Comma, semicolon or tab: the one by which the header names the most columns, the first of those that name as many.
+pub fn separator_in(header: &[u8]) -> u8
+    ensures { result ≡ separator_of header.now }
 {
-    let mut at = row;
-    let mut count: usize = 0;
-    loop {
-        let cell = cell_at(text, at, separator);
-        let from = cell.from;
-        let to = cell.to;
-        let named = names_column(&text[from..to]);
-        if cell.last {
-            return count + named;
-        }
-        at = cell.next;
-        count += named;
-    }
-}
-
-// Comma, semicolon or tab: the one by which the header at `header` names the most columns, the first of those that name as many.
-pub fn separator_in(text: &[u8], header: usize) -> u8
-    ensures { result ≡ separator_of (drop header text.now) }
-{
-    let comma = named_in(text, header, b',');
-    let semicolon = named_in(text, header, b';');
-    let tab = named_in(text, header, b'\t');
+    let comma = named_in(header, b',');
+    let semicolon = named_in(header, b';');
+    let tab = named_in(header, b'\t');
     if (semicolon <= comma) & (tab <= comma) {
         return b',';
     }
@@ -62,23 +46,21 @@ fn can_separate(byte: u8) -> bool
     !((byte == b'"') | ((byte == b'\n') | (byte == b'\r')))
 }
 
-// The line `sep=;` that starts at `at`, with any separator.
-pub fn sep_line(text: &[u8], at: usize) -> SepLine
-    ensures { SepLineAt text.now at result }
+// The line `sep=;` that a text begins with, with any separator.
+pub fn sep_line(text: &[u8]) -> Option<SepLine<'_>>
+    ensures { SepLineAt text.now result }
 {
-    if text.len() < at {
-        return SepLine::None;
+    if text.len() < 6 {
+        return None;
     }
-    if text.len() - at < 6 {
-        return SepLine::None;
+    let (name, rest) = text.split_at(4);
+    let separator = rest[0];
+    let end = &rest[1..];
+    if same_name(name, b"sep=") & can_separate(separator) & ends_row(end) {
+        return Some(SepLine {
+            separator,
+            rest: behind_break(end),
+        });
     }
-    let place = at + 4;
-    let separator = text[place];
-    let named = same_name(&text[at..place], b"sep=");
-    let allowed = can_separate(separator);
-    let end = at + 5;
-    if named & allowed & ends_row(text, end) {
-        return SepLine::Given(separator, after(text, end));
-    }
-    SepLine::None
+    None
 }

@@ -1,3 +1,2 @@
-pub mod Followed
 pub mod Rows
-pub mod Lining
+pub mod Steps

@@ -2,12 +2,12 @@
 use mathlib.Core.Path.{refl}
 use Rattle.text_words.specs.Names.{nth_word, place_in}
 use Rattle.text_words.specs.Numbers.{number_of}
-use Rattle.script_lines.specs.Lines.{argument_by, letter_at, line_by, line_read}
-use Rattle.script_lines.specs.Readings.{name_after, number_after, value_after, wrong_after}
+use Rattle.script_lines.specs.Lines.{argument_by, arguments_behind, arguments_of, letter_behind, line_read}
+use Rattle.script_lines.specs.Readings.{name_after, number_after, value_after}
 use Rattle.script_lines.specs.Laws.{LineExamples}
 
 pub examples : LineExamples
-unfolding argument_by letter_at line_by line_read name_after nth_word number_after number_of place_in value_after wrong_after
+unfolding argument_by arguments_behind arguments_of letter_behind line_read name_after nth_word number_after number_of place_in value_after
 examples =
     record {
       read = refl;

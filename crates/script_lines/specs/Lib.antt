@@ -1,4 +1,3 @@
-pub mod Following
 pub mod Laws
 pub mod Lines
 pub mod Readings

@@ -1,18 +1,35 @@
 -- What a line of a script says: its name by its place, its arguments by the form that the name has (oracle/FORMAT.md). Assumes nothing.
-use Rattle.std.specs.Prelude.{cond, List, ℕ, ◌-◌, eqb, ltb, length, get_or}
-use Rattle.text_words.specs.Names.{byte_of_nth, codes, place_in}
-use Rattle.text_words.specs.Words.{from_word, past_word, word_of}
+use Rattle.std.specs.Prelude.{Bool, false, cond, List, [], ◌∷◌, ◌++◌, ℕ, zero, suc, ◌+◌, eqb, length, get_or, Option, Some, None, Result, Ok, Err, unwrap_or, slice_get}
+use Rattle.text_words.specs.Names.{byte_of_nth, codes, place_in, words_of}
+use Rattle.script_lines.specs.declared.error.LineError.{LineError}
+use Rattle.script_lines.specs.declared.error.LineError.TheVariants as Fault
+use Rattle.script_lines.specs.declared.line.Bytes.{Bytes}
+use Rattle.script_lines.specs.declared.line.Creation.{Creation}
 use Rattle.script_lines.specs.declared.line.Line.{Line}
-use Rattle.script_lines.specs.Readings.{Reading, largest, name_after, none_after, number_after, right, text_after, value_after, wrong_after}
+use Rattle.script_lines.specs.declared.line.Place.{Place}
+use Rattle.script_lines.specs.declared.names.CallName.TheVariants as CallName
+use Rattle.script_lines.specs.declared.names.Name.{Name}
+use Rattle.script_lines.specs.declared.values.AnswerValue.TheVariants as AnswerValue
+use Rattle.script_lines.specs.declared.values.BoardValue.TheVariants as BoardValue
+use Rattle.script_lines.specs.declared.values.Buffer.{Buffer}
+use Rattle.script_lines.specs.declared.values.Value.{Value}
+use Rattle.script_lines.specs.Readings.{Reading, largest, name_after, number_after, value_after}
 
 -- ---- names and forms
 -- the names of lines: each call by its letter and its word, then what sets up, shows and expects
 abbrev pub line_names : List ℕ
 line_names = codes "R read W write P picture-read Q picture-write V view Z reset L level F forecast B read-bus C clock N S create G H D lend poke expect O open-bus ="
 
--- how many they are; a line of another number is nothing, a blank line or a comment
-abbrev pub line_count : ℕ
-line_count = 32
+-- what they stand for
+abbrev pub names : List Name
+names =
+    Name.Call CallName.Read ∷ Name.Call CallName.Read ∷ Name.Call CallName.Write ∷ Name.Call CallName.Write ∷
+    Name.Call CallName.PictureRead ∷ Name.Call CallName.PictureRead ∷ Name.Call CallName.PictureWrite ∷
+    Name.Call CallName.PictureWrite ∷ Name.Call CallName.View ∷ Name.Call CallName.View ∷ Name.Call CallName.Reset ∷
+    Name.Call CallName.Reset ∷ Name.Call CallName.Level ∷ Name.Call CallName.Level ∷ Name.Call CallName.Forecast ∷
+    Name.Call CallName.Forecast ∷ Name.Call CallName.ReadBus ∷ Name.Call CallName.ReadBus ∷ Name.Clock ∷ Name.Clock ∷
+    Name.Filled ∷ Name.LayoutS ∷ Name.Create ∷ Name.Registers ∷ Name.Buffers ∷ Name.Dump ∷ Name.Lend ∷ Name.Poke ∷ Name.Expect ∷
+    Name.OpenBus ∷ Name.OpenBus ∷ Name.Heading ∷ []
 
 -- a line's form: a letter for each argument
 abbrev pub line_forms : List ℕ
@@ -24,9 +41,21 @@ value_names =
     codes
     "entry picture-entry chr nametable fixed changing layout pulse1 pulse2 saw mode prg-16k prg-8k mirroring revision reload counter prescaler pending enabled after-acknowledge cycle halt sum open-bus view-byte view-length refusal byte ticks first-tick last-tick interrupt sounding level level-bits forecast untouched kept"
 
--- how many they are
-abbrev pub value_count : ℕ
-value_count = 39
+-- what they stand for
+abbrev pub values : List Value
+values =
+    Value.Board BoardValue.Entry ∷ Value.Board BoardValue.PictureEntry ∷ Value.Board BoardValue.Chr ∷
+    Value.Board BoardValue.Nametable ∷ Value.Byte Buffer.Fixed ∷ Value.Byte Buffer.Changing ∷ Value.Board BoardValue.Layout ∷
+    Value.Board BoardValue.Pulse1 ∷ Value.Board BoardValue.Pulse2 ∷ Value.Board BoardValue.Saw ∷ Value.Board BoardValue.Mode ∷
+    Value.Board BoardValue.Prg16 ∷ Value.Board BoardValue.Prg8 ∷ Value.Board BoardValue.Mirroring ∷
+    Value.Board BoardValue.Revision ∷ Value.Board BoardValue.Reload ∷ Value.Board BoardValue.Counter ∷
+    Value.Board BoardValue.Prescaler ∷ Value.Board BoardValue.Pending ∷ Value.Board BoardValue.Enabled ∷
+    Value.Board BoardValue.AfterAcknowledge ∷ Value.Board BoardValue.Cycle ∷ Value.Board BoardValue.Halt ∷
+    Value.Board BoardValue.Sum ∷ Value.Board BoardValue.OpenBus ∷ Value.ViewByte ∷ Value.Answer AnswerValue.ViewLength ∷
+    Value.Answer AnswerValue.Refusal ∷ Value.Answer AnswerValue.Byte ∷ Value.Answer AnswerValue.Ticks ∷
+    Value.Answer AnswerValue.FirstTick ∷ Value.Answer AnswerValue.LastTick ∷ Value.Answer AnswerValue.Interrupt ∷
+    Value.Answer AnswerValue.Sounding ∷ Value.Answer AnswerValue.Level ∷ Value.Answer AnswerValue.LevelBits ∷
+    Value.Answer AnswerValue.Forecast ∷ Value.Untouched ∷ Value.Kept ∷ []
 
 -- a value's form: its place, and the number
 abbrev pub value_forms : List ℕ
@@ -43,72 +72,114 @@ channel_fields = codes "enabled volume duty ignore-duty frequency timer step shi
 -- ---- arguments
 -- the argument of a letter: a an address, b a byte, x a hexadecimal number, d a decimal one, m a mirroring, w r or w, v a revision,
 -- k a reset, l a buffer, y no or yes, n a value's name, f a layout's field, c a channel's field, q a value, t the rest of the line; none otherwise
-unfoldable pub argument_by : (letter : ℕ) → Reading → Reading
-argument_by letter r =
-    cond (eqb letter 97) (number_after 16 65_535 3 r)
-    (cond (eqb letter 98) (number_after 16 255 3 r)
-    (cond (eqb letter 120) (number_after 16 largest 3 r)
-    (cond (eqb letter 100) (number_after 10 largest 4 r)
-    (cond (eqb letter 109) (number_after 10 4 4 r)
-    (cond (eqb letter 119) (name_after (codes "r w") 2 r)
-    (cond (eqb letter 118) (name_after (codes "A B") 2 r)
-    (cond (eqb letter 107) (name_after (codes "s h soft hard") 4 r)
-    (cond (eqb letter 108) (name_after (codes "fixed changing") 2 r)
-    (cond (eqb letter 121) (name_after (codes "no yes") 2 r)
-    (cond (eqb letter 110) (name_after value_names value_count r)
-    (cond (eqb letter 102) (name_after layout_fields 5 r)
-    (cond (eqb letter 99) (name_after channel_fields 10 r)
-    (cond (eqb letter 113) (value_after r)
-    (cond (eqb letter 116) (text_after r)
-    (none_after r)))))))))))))))
+unfoldable pub argument_by : (letter : ℕ) → List (List ℕ) → Result Reading LineError
+argument_by letter words =
+    cond (eqb letter 97) (number_after 16 65_535 Fault.NoHexadecimal words)
+    (cond (eqb letter 98) (number_after 16 255 Fault.NoHexadecimal words)
+    (cond (eqb letter 120) (number_after 16 largest Fault.NoHexadecimal words)
+    (cond (eqb letter 100) (number_after 10 largest Fault.NoDecimal words)
+    (cond (eqb letter 109) (number_after 10 4 Fault.NoDecimal words)
+    (cond (eqb letter 119) (name_after (codes "r w") words)
+    (cond (eqb letter 118) (name_after (codes "A B") words)
+    (cond (eqb letter 107) (name_after (codes "s h soft hard") words)
+    (cond (eqb letter 108) (name_after (codes "fixed changing") words)
+    (cond (eqb letter 121) (name_after (codes "no yes") words)
+    (cond (eqb letter 110) (name_after value_names words)
+    (cond (eqb letter 102) (name_after layout_fields words)
+    (cond (eqb letter 99) (name_after channel_fields words)
+    (cond (eqb letter 113) (value_after words)
+    (cond (eqb letter 116) (Ok (record { value = 0; rest = [] }))
+    (Ok (record { value = 0; rest = words }))))))))))))))))
 
--- the letter of a line's argument behind the first: behind the name of a value those of the value follow
-unfoldable pub letter_at : (what first i : ℕ) → ℕ
-letter_at what first i =
-    cond (eqb (byte_of_nth what 0 line_forms) 110) (byte_of_nth first (i - 1) value_forms) (byte_of_nth what i line_forms)
+-- a letter of one of the forms; `-` behind its end
+abbrev pub letter_in : (forms : List ℕ) → (place i : ℕ) → ℕ
+letter_in forms place i = unwrap_or (byte_of_nth place i forms) 45
+
+-- the letter of the argument behind those so far: behind the name of a value those of the value follow
+unfoldable pub letter_behind : (place : ℕ) → (so_far : List ℕ) → ℕ
+letter_behind place [] = letter_in line_forms place 0
+letter_behind place (value ∷ more) =
+    cond (eqb (letter_in line_forms place 0) 110) (letter_in value_forms value (length more)) (letter_in line_forms place (length more + 1))
 
 -- ---- a line
--- a line from its eight arguments
-abbrev pub line_from : (what : ℕ) → (a b c d e f g h : Reading) → Line
-line_from what a b c d e f g h =
+-- what follows an argument
+abbrev pub behind : Result Reading LineError → (Reading → Result (List ℕ) LineError) → Result (List ℕ) LineError
+behind (Ok r) next = next r
+behind (Err e) next = Err e
+
+-- the arguments so far, with so many more; a further word is one too many
+unfoldable pub arguments_behind : (place n : ℕ) → (so_far : List ℕ) → List (List ℕ) → Result (List ℕ) LineError
+arguments_behind place zero so_far [] = Ok so_far
+arguments_behind place zero so_far (word ∷ rest) = Err Fault.TooMany
+arguments_behind place (suc n) so_far words =
+    behind (argument_by (letter_behind place so_far) words) (λ (r : Reading). arguments_behind place n (so_far ++ r.value ∷ []) r.rest)
+
+-- the eight arguments of the line whose name has this place, from the words behind it
+unfoldable pub arguments_of : (place : ℕ) → List (List ℕ) → Result (List ℕ) LineError
+arguments_of place words = arguments_behind place 8 [] words
+
+-- a board's layout, the numbers of its mirroring and its revision, and what the buffers hold
+abbrev pub creation_of : List ℕ → Bytes → Creation
+creation_of args bytes =
     record {
-      what = what;
-      a = a.value;
-      b = b.value;
-      c = c.value;
-      d = d.value;
-      e = e.value;
-      f = f.value;
-      g = g.value;
-      h = h.value;
-      wrong = wrong_after h;
+      prg = get_or args 0 0;
+      chr = get_or args 1 0;
+      writable = eqb (get_or args 2 0) 1;
+      ram = get_or args 3 0;
+      ciram = get_or args 4 0;
+      mirroring = get_or args 5 0;
+      revision = get_or args 6 0;
+      bytes = bytes;
     }
 
--- a line of a known name, with the text behind it
-unfoldable pub line_by : (what : ℕ) → List ℕ → Line
-line_by what text =
-    let a : Reading = argument_by (byte_of_nth what 0 line_forms) (right 0 text) in
-    let next : ℕ → Reading → Reading = λ i r. argument_by (letter_at what a.value i) r in
-    let b : Reading = next 1 a in
-    let c : Reading = next 2 b in
-    let d : Reading = next 3 c in
-    let e : Reading = next 4 d in
-    let f : Reading = next 5 e in
-    let g : Reading = next 6 f in
-    line_from what a b c d e f g (next 7 g)
+-- layout S over buffers of zeros
+abbrev pub layout_s : (mirroring revision : ℕ) → Creation
+layout_s mirroring revision =
+    record { prg = 131_072; chr = 131_072; writable = false; ram = 8_192; ciram = 2_048; mirroring = mirroring; revision = revision; bytes = Bytes.Zeros }
 
--- a line without arguments that is nothing, or wrong
-abbrev pub line_alone : (wrong : ℕ) → Line
-line_alone wrong = record { what = line_count; a = 0; b = 0; c = 0; d = 0; e = 0; f = 0; g = 0; h = 0; wrong = wrong }
+-- a value by the place of its name
+abbrev pub place_of : (name at : ℕ) → Place
+place_of name at = record { value = unwrap_or (slice_get values name) Value.Kept; at = at }
+
+-- a line of a known name
+abbrev pub line_of : Name → List ℕ → Line
+line_of (Name.Call call) args = Line.Call call (get_or args 0 0) (get_or args 1 0)
+line_of Name.Clock args = Line.Clock (get_or args 0 0)
+line_of Name.Filled args = Line.Create (creation_of args (Bytes.Filled (get_or args 7 0)))
+line_of Name.LayoutS args = Line.Create (layout_s (get_or args 0 0) (get_or args 1 0))
+line_of Name.Create args = Line.Create (creation_of args Bytes.Kept)
+line_of Name.Registers args = Line.Registers
+line_of Name.Buffers args = Line.Buffers
+line_of Name.Dump args = Line.Dump
+line_of Name.Lend args = Line.Lend (cond (eqb (get_or args 0 0) 0) Buffer.Fixed Buffer.Changing) (get_or args 1 0)
+line_of Name.Poke args = Line.Poke (place_of (get_or args 0 0) (get_or args 1 0)) (get_or args 2 0)
+line_of Name.Expect args = Line.Expect (place_of (get_or args 0 0) (get_or args 1 0)) (get_or args 2 0)
+line_of Name.OpenBus args = Line.OpenBus (eqb (get_or args 0 0) 1)
+line_of Name.Heading args = Line.Heading
+
+-- a line of this name with its arguments, if nothing is wrong with them
+abbrev pub line_from : Name → Result (List ℕ) LineError → Result Line LineError
+line_from name (Ok args) = Ok (line_of name args)
+line_from name (Err e) = Err e
+
+-- what a line's name stands for, by its place
+abbrev pub name_at : (place : ℕ) → Name
+name_at place = unwrap_or (slice_get names place) Name.Heading
+
+-- a line by the place of its name
+abbrev pub line_named : Option ℕ → List (List ℕ) → Result Line LineError
+line_named None rest = Err Fault.UnknownLine
+line_named (Some place) rest = line_from (name_at place) (arguments_of place rest)
+
+-- a line is a comment, by its first word
+abbrev pub is_comment : List ℕ → Bool
+is_comment word = eqb (get_or word 0 0) 35
 
 -- a line by its first word: nothing if there is none or it begins with `#`, wrong if it is no line's name
-abbrev pub line_with : (word rest : List ℕ) → Line
-line_with word rest =
-    cond (eqb (length word) 0) (line_alone 0)
-    (cond (eqb (get_or word 0 0) 35) (line_alone 0)
-    (cond (ltb (place_in line_names word) line_count) (line_by (place_in line_names word) rest)
-    (line_alone 1)))
+abbrev pub line_with : List (List ℕ) → Result Line LineError
+line_with [] = Ok Line.Nothing
+line_with (word ∷ rest) = cond (is_comment word) (Ok Line.Nothing) (line_named (place_in line_names word) rest)
 
 -- what a line says
-unfoldable pub line_read : List ℕ → Line
-line_read line = line_with (word_of (from_word line)) (past_word (from_word line))
+unfoldable pub line_read : List ℕ → Result Line LineError
+line_read line = line_with (words_of line)

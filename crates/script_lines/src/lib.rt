@@ -1,9 +1,11 @@
-// The lines of a script: what kind each is, its arguments, and what is wrong with it.
+// The lines of a script: what each does, and what is wrong with one.
 #![tactic(auto)]
 
 pub mod arguments;
-pub mod kinds;
+pub mod error;
 pub mod line;
+pub mod names;
 pub mod values;
 
+pub use error::LineError;
 pub use line::{Line, parse};

@@ -1,58 +1,103 @@
-// Which value a line asks for or sets, by the place of its name (specs/Lines.antt, `value_names`).
+// The values that a line asks for or sets.
 
-// Of the board and its buffers, which can be set too.
-pub const ENTRY: u32 = 0;
+#[derive(Clone, Copy, PartialEq, Eq, Debug)]
+pub enum Buffer {
+    Fixed,
+    Changing,
+}
 
-pub const PICTURE_ENTRY: u32 = 1;
+#[derive(Clone, Copy, PartialEq, Eq, Debug)]
+pub enum BoardValue {
+    Entry,
+    PictureEntry,
+    Chr,
+    Nametable,
+    Layout,
+    Pulse1,
+    Pulse2,
+    Saw,
+    Mode,
+    Prg16,
+    Prg8,
+    Mirroring,
+    Revision,
+    Reload,
+    Counter,
+    Prescaler,
+    Pending,
+    Enabled,
+    AfterAcknowledge,
+    Cycle,
+    Halt,
+    Sum,
+    OpenBus,
+}
 
-pub const CHR: u32 = 2;
+// What the last call answered.
+#[derive(Clone, Copy, PartialEq, Eq, Debug)]
+pub enum AnswerValue {
+    ViewLength,
+    Refusal,
+    Byte,
+    Ticks,
+    FirstTick,
+    LastTick,
+    Interrupt,
+    Sounding,
+    Level,
+    LevelBits,
+    Forecast,
+}
 
-pub const NAMETABLE: u32 = 3;
+#[derive(Clone, Copy, PartialEq, Eq, Debug)]
+pub enum Value {
+    Board(BoardValue),
+    Byte(Buffer),
+    Answer(AnswerValue),
+    ViewByte,
+    Untouched,
+    Kept,
+}
 
-pub const FIXED: u32 = 4;
-
-pub const CHANGING: u32 = 5;
-
-pub const LAYOUT: u32 = 6;
-
-pub const PULSE1: u32 = 7;
-
-pub const PULSE2: u32 = 8;
-
-pub const SAW: u32 = 9;
-
-// From here to the setting each value is one number.
-pub const MODE: u32 = 10;
-
-pub const PENDING: u32 = 18;
-
-pub const OPEN_BUS: u32 = 24;
-
-// Of what the last call answered.
-pub const VIEW_BYTE: u32 = 25;
-
-pub const VIEW_LENGTH: u32 = 26;
-
-pub const REFUSAL: u32 = 27;
-
-pub const BYTE: u32 = 28;
-
-pub const TICKS: u32 = 29;
-
-pub const FIRST_TICK: u32 = 30;
-
-pub const LAST_TICK: u32 = 31;
-
-pub const INTERRUPT: u32 = 32;
-
-pub const SOUNDING: u32 = 33;
-
-pub const LEVEL: u32 = 34;
-
-pub const LEVEL_BITS: u32 = 35;
-
-pub const FORECAST: u32 = 36;
-
-pub const UNTOUCHED: u32 = 37;
-
-pub const KEPT: u32 = 38;
+// What the names of values stand for, in their order.
+pub const VALUES: [Value; 39] = [
+    Value::Board(BoardValue::Entry),
+    Value::Board(BoardValue::PictureEntry),
+    Value::Board(BoardValue::Chr),
+    Value::Board(BoardValue::Nametable),
+    Value::Byte(Buffer::Fixed),
+    Value::Byte(Buffer::Changing),
+    Value::Board(BoardValue::Layout),
+    Value::Board(BoardValue::Pulse1),
+    Value::Board(BoardValue::Pulse2),
+    Value::Board(BoardValue::Saw),
+    Value::Board(BoardValue::Mode),
+    Value::Board(BoardValue::Prg16),
+    Value::Board(BoardValue::Prg8),
+    Value::Board(BoardValue::Mirroring),
+    Value::Board(BoardValue::Revision),
+    Value::Board(BoardValue::Reload),
+    Value::Board(BoardValue::Counter),
+    Value::Board(BoardValue::Prescaler),
+    Value::Board(BoardValue::Pending),
+    Value::Board(BoardValue::Enabled),
+    Value::Board(BoardValue::AfterAcknowledge),
+    Value::Board(BoardValue::Cycle),
+    Value::Board(BoardValue::Halt),
+    Value::Board(BoardValue::Sum),
+    Value::Board(BoardValue::OpenBus),
+    Value::ViewByte,
+    Value::Answer(AnswerValue::ViewLength),
+    Value::Answer(AnswerValue::Refusal),
+    Value::Answer(AnswerValue::Byte),
+    Value::Answer(AnswerValue::Ticks),
+    Value::Answer(AnswerValue::FirstTick),
+    Value::Answer(AnswerValue::LastTick),
+    Value::Answer(AnswerValue::Interrupt),
+    Value::Answer(AnswerValue::Sounding),
+    Value::Answer(AnswerValue::Level),
+    Value::Answer(AnswerValue::LevelBits),
+    Value::Answer(AnswerValue::Forecast),
+    Value::Untouched,
+    Value::Kept,
+];

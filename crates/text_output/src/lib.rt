@@ -1,7 +1,9 @@
 // Text into a buffer, which is written out when it is full. What can't be written is dropped.
 #![tactic(auto)]
 
-ghost use Rattle.std.specs.Prelude.{◌≡◌, ◌+◌, ◌≤◌, ◌<◌, ℕ, List, [], ◌∷◌, ◌++◌, length, take};
+ghost use Rattle.std.specs.Prelude.{◌≡◌, ◌+◌, ◌≤◌, ◌<◌, ℕ, List, [], ◌∷◌, ◌++◌, length, take, OnOk};
+ghost use Rattle.std.specs.Fmt.{WritesText};
+ghost use Rattle.text_output.specs.Appends.{appends};
 
 use std::fmt;
 use std::fmt::Display;
@@ -77,12 +79,16 @@ impl Output {
     }
 
     // What `put!` calls.
-    pub fn print<D: Display + Drop>(&mut self, value: D) {
-        let _ = fmt::Write::write(self, value);
+    pub fn print<D: Display + Drop>(&mut self, value: D) -> fmt::Result
+        ensures { OnOk result (WritesText appends self.old (D.output value) self.new) }
+    {
+        fmt::Write::write(self, value)
     }
 }
 
 impl fmt::Write for Output {
+    ghost write_str_gives = { appends };
+
     fn write_str(&mut self, text: &str) -> fmt::Result {
         self.text(text.as_bytes());
         Ok(())
@@ -92,7 +98,7 @@ impl fmt::Write for Output {
 // Prints a format, as `put!(out; "{x} bytes\n")`.
 #[macro_export]
 macro_rules! put {
-    ($out:expr; $($arg:tt)+) => {
-        $out.print(format_args!($($arg)+))
-    };
+    ($out:expr; $($arg:tt)+) => {{
+        let _ = $out.print(format_args!($($arg)+));
+    }};
 }

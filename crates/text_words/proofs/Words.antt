@@ -1,11 +1,12 @@
 -- The words of a text, one after the other. Assumes nothing.
 use Rattle.std.proofs.Common.{◌≡◌, ℕ, zero, suc, ◌-◌, ◌<◌, ◌≤◌, Bool, true, false, cond, List, [], ◌∷◌, length, refl, sym, ap, ◌∙◌, arith, min, length-take}
 use Rattle.std.proofs.lemmas.Bool.{eqb-false, ne_eqb}
-use Rattle.text_words.proofs.Cuts.{shorter}
+use Rattle.text_words.proofs.Cuts.{taken_le}
 use Rattle.text_words.specs.declared.Word.{Word}
 use Rattle.text_words.specs.Found.{Found}
 use Rattle.text_words.specs.Names.{words_in, words_of}
-use Rattle.text_words.specs.Words.{from_word, is_empty, past_word, word_of}
+use Rattle.std.specs.Bool.{beq}
+use Rattle.text_words.specs.Words.{is_blank, from_word, is_empty, past_word, word_of}
 
 -- a text with a word is longer than what is behind it
 behind_word : (t : List ℕ) → is_empty t ≡ false → length (past_word (from_word t)) < length t
@@ -13,7 +14,7 @@ behind_word t e =
     let s : List ℕ = from_word t in
     let some : length (word_of s) ≡ 0 → ⊥ = eqb-false (length (word_of s)) 0 e in
     let size : length (word_of s) ≡ min (length s - length (past_word s)) (length s) = length-take (length s - length (past_word s)) s in
-    omega (arith, some, size, shorter false t)
+    omega (arith, some, size, taken_le (λ b. beq (is_blank b) false) t)
 
 -- the words do not depend on the number of words looked for, if that is no less than the bytes
 enough : (n m : ℕ) (t : List ℕ) → length t ≤ n → length t ≤ m → words_in n t ≡ words_in m t

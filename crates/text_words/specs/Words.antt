@@ -7,10 +7,14 @@ use Rattle.text_words.specs.Numbers.{between}
 abbrev pub is_blank : ℕ → Bool
 is_blank b = eqb b 32 || between 9 13 b
 
+-- a text from its first byte on that a test takes; nothing where it has none
+abbrev pub from_taken : (test : ℕ → Bool) → List ℕ → List ℕ
+from_taken test [] = []
+from_taken test (b ∷ bs) = cond (test b) (b ∷ bs) (from_taken test bs)
+
 -- a text from its first blank on, or from its first byte on that is none
 abbrev pub from_first : (blank : Bool) → List ℕ → List ℕ
-from_first blank [] = []
-from_first blank (b ∷ bs) = cond (beq (is_blank b) blank) (b ∷ bs) (from_first blank bs)
+from_first blank s = from_taken (λ (b : ℕ). beq (is_blank b) blank) s
 
 -- a text from its first word on
 abbrev pub from_word : List ℕ → List ℕ

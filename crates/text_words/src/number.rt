@@ -1,5 +1,5 @@
 // Numbers: a word's hexadecimal or decimal digits.
-ghost use Rattle.std.specs.Prelude.{◌≡◌, ◌≤◌};
+ghost use Rattle.std.specs.Prelude.{◌≡◌, ◌≤◌, IfOk};
 ghost use Rattle.text_words.specs.Numbers.{below, digit_of, number_of};
 
 // Why a word is no number.
@@ -22,7 +22,8 @@ fn digit(byte: u8, base: u64) -> Option<u64>
 // The number that the digits of a word make in a base.
 pub fn in_base(word: &[u8], base: u64, limit: u32) -> Result<u32, NumberError>
     requires { (1 ≤ base) × (base ≤ 16) }
-    ensures { result ≡ number_of base limit word.now }
+    ensures value { result ≡ number_of base limit word.now }
+    ensures limit { IfOk result (λ n. n ≤ limit) }
 {
     if word.is_empty() {
         return Err(NumberError::NoNumber);

@@ -1,27 +1,29 @@
 -- The banking values at creation, after a bank write, and their ranges (01, Records; 01, Banks and decode; VRC6). Assumes nothing.
-use Rattle.std.specs.Prelude.{Bool, true, false, ◌&&◌, List, ℕ, ◌%◌, leb, get_or, set, replicate}
+use Rattle.std.specs.Prelude.{◌≡◌, Bool, true, false, ◌&&◌, List, ℕ, ◌%◌, ◌<◌, leb, get_or, set, replicate, Result, MatchResult}
 use Rattle.registers.specs.declared.BankRegister.{BankRegister}
 use Rattle.registers.specs.declared.BankRegister.TheVariants.{Prg16, Prg8, Mode, Chr}
 use Rattle.vrc6_banking.specs.declared.banking.Banking.{Banking}
 use Rattle.vrc6_slots.specs.declared.Mirroring.{Mirroring}
-use Rattle.vrc6_slots.specs.declared.Mirroring.TheVariants.{Vertical, Horizontal, SingleScreenA, SingleScreenB, FourScreen}
+use Rattle.vrc6_slots.specs.declared.UnknownNumber.{UnknownNumber}
 use Rattle.vrc6_banking.specs.declared.banking.Revision.{Revision}
 use Rattle.vrc6_banking.specs.declared.banking.Revision.TheVariants.{A, B}
 use Rattle.vrc6_banking.specs.declared.banking.Settings.{Settings}
 use Rattle.vrc6_slots.specs.Nametables.{mirroring_numbers, nametable_numbers, nametable_mirroring}
-
--- a mirroring's number (ppu.rs, Mirroring)
-abbrev pub mirroring_number : Mirroring → ℕ
-mirroring_number Vertical = 0
-mirroring_number Horizontal = 1
-mirroring_number SingleScreenA = 2
-mirroring_number SingleScreenB = 3
-mirroring_number FourScreen = 4
+pub use Rattle.vrc6_slots.specs.Numbered.{mirroring_number}
 
 -- a revision's mark
 abbrev pub is_b : Revision → Bool
 is_b A = false
 is_b B = true
+
+-- its number, by which a host names it (01, The board's calls 1)
+abbrev pub revision_number : Revision → ℕ
+revision_number A = 0
+revision_number B = 1
+
+-- what a number stands for: the revision that has it, or, above 1, none (01, The board's calls 1)
+abbrev pub RevisionNumbered : ℕ → Result Revision UnknownNumber → Type 0
+RevisionNumbered n r = MatchResult r (λ v. revision_number v ≡ n) (λ e. (e.0 ≡ n) × (1 < n))
 
 -- the settings of creation that have a mirroring and a revision, and no open bus (01, The board's calls 1; 02, change 1)
 abbrev pub settings_of : Mirroring → Revision → Settings

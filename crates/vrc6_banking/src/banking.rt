@@ -1,22 +1,45 @@
 // The banking values of a board.
 ghost use Rattle.std.specs.Prelude.{◌≡◌};
 ghost use Rattle.vrc6_slots.specs.Chr.{chr_slots};
-ghost use Rattle.vrc6_banking.specs.Banking.{bank_written, banking_in_range, first_banking, is_b, mirroring_number, renamed, settings_of, zero_banking};
+ghost use Rattle.vrc6_banking.specs.Banking.{RevisionNumbered, bank_written, banking_in_range, first_banking, renamed, revision_number, settings_of, zero_banking};
 
 use registers::BankRegister;
-pub use vrc6_slots::Mirroring;
 use vrc6_slots::chr::chr_slots;
 use vrc6_slots::nametables::{mirroring_numbers, nametable_mirroring, nametable_numbers};
+pub use vrc6_slots::{Mirroring, UnknownNumber};
 
 // Revision B exchanges address lines 0 and 1.
-#[derive(Clone, Copy)]
+#[derive(Clone, Copy, Debug, PartialEq, Eq)]
 pub enum Revision {
     A,
     B,
 }
 
+// The number by which C knows it.
+impl From<Revision> for u8 {
+    ghost from_gives = { λ revision n. n ≡ revision_number revision };
+
+    fn from(revision: Revision) -> u8 {
+        revision as u8
+    }
+}
+
+impl TryFrom<u8> for Revision {
+    type Error = UnknownNumber;
+
+    ghost try_from_gives = { RevisionNumbered };
+
+    fn try_from(number: u8) -> Result<Revision, UnknownNumber> {
+        match number {
+            0 => Ok(Revision::A),
+            1 => Ok(Revision::B),
+            _ => Err(UnknownNumber(number)),
+        }
+    }
+}
+
 // What a board is made with, beside its memory.
-#[derive(Clone, Copy)]
+#[derive(Clone, Copy, Debug, PartialEq, Eq)]
 pub struct Settings {
     pub mirroring: Mirroring,
     pub revision: Revision,
@@ -38,7 +61,7 @@ impl Settings {
 }
 
 #[repr(C)]
-#[derive(Clone, Copy)]
+#[derive(Clone, Copy, Debug, PartialEq, Eq)]
 pub struct Banking {
     pub banking_mode: u8,
     // The 16 KiB bank at $8000 and the 8 KiB bank at $C000.
@@ -52,56 +75,31 @@ pub struct Banking {
     pub revision_b: bool,
 }
 
-// The number that a board holds for a mirroring.
-pub fn mirroring_number(mirroring: Mirroring) -> u8
-    ensures { result ≡ mirroring_number mirroring }
-{
-    match mirroring {
-        Mirroring::Vertical => 0,
-        Mirroring::Horizontal => 1,
-        Mirroring::SingleScreenA => 2,
-        Mirroring::SingleScreenB => 3,
-        Mirroring::FourScreen => 4,
-    }
-}
-
-// Whether a revision is B.
-pub fn is_b(revision: Revision) -> bool
-    ensures { result ≡ is_b revision }
-{
-    match revision {
-        Revision::A => false,
-        Revision::B => true,
-    }
-}
-
 impl Banking {
     // At creation every register is 0, and the nametables are those of the mirroring given.
     pub fn new(settings: Settings) -> Self
         ensures { result ≡ first_banking settings }
     {
-        let mirroring = settings.mirroring;
-        let revision = settings.revision;
         Self {
             banking_mode: 0,
-            prg_banks: [0, 0],
+            prg_banks: [0; 2],
             chr: [0; 8],
-            mirroring: mirroring_number(mirroring),
-            nt_banks: mirroring_numbers(mirroring),
-            revision_b: is_b(revision),
+            mirroring: u8::from(settings.mirroring),
+            nt_banks: mirroring_numbers(settings.mirroring),
+            revision_b: settings.revision == Revision::B,
         }
     }
 
-    // All values zero, as in the board of a refused create.
+    // All values zero, as in the board of a refused create. No Default: that would be taken for a fresh board's.
     pub fn zero() -> Self
         ensures { result ≡ zero_banking }
     {
         Self {
             banking_mode: 0,
-            prg_banks: [0, 0],
+            prg_banks: [0; 2],
             chr: [0; 8],
             mirroring: 0,
-            nt_banks: [0, 0, 0, 0],
+            nt_banks: [0; 4],
             revision_b: false,
         }
     }
@@ -110,29 +108,27 @@ impl Banking {
     pub fn in_range(self) -> bool
         ensures { result ≡ banking_in_range self }
     {
-        let prg = self.prg_banks;
-        (prg[0] <= 15) & (prg[1] <= 31) & (self.mirroring <= 4)
+        let [first, second] = self.prg_banks;
+        (first <= 15) & (second <= 31) & (self.mirroring <= 4)
     }
 
     // The banks of the eight 1 KiB slots, by the mode's lowest two bits.
     pub fn chr_banks(self) -> [u8; 8]
         ensures { result ≡ chr_slots self.banking_mode self.chr }
     {
-        let chr = self.chr;
-        chr_slots(self.banking_mode, chr)
+        chr_slots(self.banking_mode, self.chr)
     }
 
     // Mirroring and nametable numbers again, from the mode and the CHR registers.
-    fn update_nametables(mut self) -> Self
+    fn update_nametables(self) -> Self
         ensures { result ≡ renamed self self.banking_mode self.chr }
     {
         let mode = self.banking_mode;
-        let mirroring = mirroring_number(nametable_mirroring(mode));
-        let chr = self.chr;
-        let numbers = nametable_numbers(mode, chr);
-        self.mirroring = mirroring;
-        self.nt_banks = numbers;
-        self
+        Self {
+            mirroring: u8::from(nametable_mirroring(mode)),
+            nt_banks: nametable_numbers(mode, self.chr),
+            ..self
+        }
     }
 
     // A PRG register leaves the nametables as they are, even those of creation.

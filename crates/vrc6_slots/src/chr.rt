@@ -29,20 +29,24 @@ fn pair(mode: u8, v: u8) -> [u8; 2]
 }
 
 // The banks of the eight 1 KiB slots, by the mode's lowest two bits.
+#[tactic(auto, unfolding(crate::specs::Chr::chr_slots))]
 pub fn chr_slots(mode: u8, chr: [u8; 8]) -> [u8; 8]
     ensures { result ≡ chr_slots mode chr }
 {
-    if mode % 4 == 0 {
-        return chr;
+    let [c0, c1, c2, c3, c4, c5, ..] = chr;
+    match mode % 4 {
+        0 => chr,
+        1 => {
+            let [a, b] = pair(mode, c0);
+            let [c, d] = pair(mode, c1);
+            let [e, f] = pair(mode, c2);
+            let [g, h] = pair(mode, c3);
+            [a, b, c, d, e, f, g, h]
+        }
+        _ => {
+            let [e, f] = pair(mode, c4);
+            let [g, h] = pair(mode, c5);
+            [c0, c1, c2, c3, e, f, g, h]
+        }
     }
-    if mode % 4 == 1 {
-        let a = pair(mode, chr[0]);
-        let b = pair(mode, chr[1]);
-        let c = pair(mode, chr[2]);
-        let d = pair(mode, chr[3]);
-        return [a[0], a[1], b[0], b[1], c[0], c[1], d[0], d[1]];
-    }
-    let e = pair(mode, chr[4]);
-    let f = pair(mode, chr[5]);
-    [chr[0], chr[1], chr[2], chr[3], e[0], e[1], f[0], f[1]]
 }

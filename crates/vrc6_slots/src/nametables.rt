@@ -24,33 +24,25 @@ fn mode_mirroring(mode: u8) -> Mirroring
     ensures { result ≡ mode_mirroring mode }
 {
     let style = mode / 32 % 2 * 32 + mode % 16;
-    if (style == 0x20) | (style == 0x27) {
-        return Mirroring::Vertical;
+    match style {
+        0x20 | 0x27 => Mirroring::Vertical,
+        0x23 | 0x24 => Mirroring::Horizontal,
+        0x28 | 0x2F => Mirroring::SingleScreenA,
+        0x2B | 0x2C => Mirroring::SingleScreenB,
+        _ => Mirroring::FourScreen,
     }
-    if (style == 0x23) | (style == 0x24) {
-        return Mirroring::Horizontal;
-    }
-    if (style == 0x28) | (style == 0x2F) {
-        return Mirroring::SingleScreenA;
-    }
-    if (style == 0x2B) | (style == 0x2C) {
-        return Mirroring::SingleScreenB;
-    }
-    Mirroring::FourScreen
 }
 
 // The registers that choose for the modes that name no mirroring.
 fn whole_registers(mode: u8, chr: [u8; 8]) -> [u8; 4]
     ensures { result ≡ whole_registers mode chr }
 {
-    let kind = mode % 8;
-    if (kind == 0) | (kind == 6) | (kind == 7) {
-        return [chr[6], chr[6], chr[7], chr[7]];
+    let [.., c4, c5, c6, c7] = chr;
+    match mode % 8 {
+        0 | 6 | 7 => [c6, c6, c7, c7],
+        1 | 5 => [c4, c5, c6, c7],
+        _ => [c6, c7, c6, c7],
     }
-    if (kind == 1) | (kind == 5) {
-        return [chr[4], chr[5], chr[6], chr[7]];
-    }
-    [chr[6], chr[7], chr[6], chr[7]]
 }
 
 // From CHR: registers 6 and 7 as aligned pairs, so that the mirroring falls within a pair or across both.
@@ -75,15 +67,13 @@ fn ciram_numbers(mirroring: Mirroring, mode: u8, chr: [u8; 8]) -> [u8; 4]
     ensures { result ≡ ciram_numbers mirroring mode chr }
 {
     match mirroring {
-        Mirroring::FourScreen => {
-            let whole = whole_registers(mode, chr);
-            [whole[0] % 2, whole[1] % 2, whole[2] % 2, whole[3] % 2]
-        }
+        Mirroring::FourScreen => whole_registers(mode, chr).map(|v| v % 2),
         _ => mirroring_numbers(mirroring),
     }
 }
 
 // From CHR every nametable is selected by itself.
+#[tactic(auto, unfolding(crate::specs::Nametables::nametable_mirroring))]
 pub fn nametable_mirroring(mode: u8) -> Mirroring
     ensures { result ≡ nametable_mirroring mode }
 {
@@ -93,6 +83,7 @@ pub fn nametable_mirroring(mode: u8) -> Mirroring
     mode_mirroring(mode)
 }
 
+#[tactic(auto, unfolding(crate::specs::Nametables::nametable_numbers))]
 pub fn nametable_numbers(mode: u8, chr: [u8; 8]) -> [u8; 4]
     ensures { result ≡ nametable_numbers mode chr }
 {

@@ -1,9 +1,20 @@
 -- `quoted_cell` meets its contract. Assumes nothing.
-use Rattle.scene_cells.proofs.Contents.{unclosed, closed_at}
+use Rattle.std.proofs.Common.{arith, ap, ◌∙◌, length}
+use Rattle.scene_cells.specs.Cells.{closed_to, from_break}
+use Rattle.scene_cells.specs.Marks.{before}
+use Rattle.scene_cells.proofs.Splits.{onward}
+use Rattle.scene_cells.proofs.Contents.{quote_le, quoted, unclosed}
 use Rattle.scene_cells.proofs.quoted_cell.Goals as goal
 
-pub returns-then-close-text : goal.returns-then-close-text
-returns-then-close-text c = unclosed _ _ _ _ c.closing_quote-close.ensures c.if-close-text.true
+pub slice_bounds-closed_cell-count : goal.slice_bounds-closed_cell-count
+slice_bounds-closed_cell-count c = omega (arith, quote_le c.args.text.now, ap length c.from_quote-close.ensures)
 
-pub returns : goal.returns
-returns c = closed_at _ _ _ _ c.closing_quote-close.ensures c.if-close-text.false _ _ _ _ c.break_from-stop.ensures c.after-next.ensures c.ends_row-last.ensures c.wrong_behind-wrong.ensures
+pub returns-in-empty : goal.returns-in-empty
+returns-in-empty c = unclosed _ _ _ c.from_quote-close.ensures (omega arith)
+
+pub returns-in-len1-up : goal.returns-in-len1-up
+returns-in-len1-up c =
+    let close = c.from_quote-close.result.now in
+    c.closed_cell.ensures
+    ∙ ap (λ l. closed_to (before c.args.text.now close) l (from_break c.args.separator l)) (onward close 1)
+    ∙ quoted c.args.separator c.args.text.now _ c.from_quote-close.ensures (omega arith)

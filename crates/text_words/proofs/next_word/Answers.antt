@@ -6,8 +6,8 @@ use Rattle.text_words.proofs.next_word.Goals as goal
 
 pub returns-then-is_empty : goal.returns-then-is_empty
 returns-then-is_empty c =
-    no_word c.args.text.now _ _ c.from_first-text.ensures (record { bound = c.before_first.ensures.bound; cut = c.before_first.ensures.cut }) (sym (ap length c.split_at.ensures.front) ∙ eqb-true _ 0 (sym c.is_empty.ensures ∙ c.if-is_empty.true))
+    no_word c.args.text.now _ _ c.from_first-text.ensures c.before_first.ensures.bound c.before_first.ensures.cut (sym (ap length c.split_at.ensures.front) ∙ eqb-true _ 0 (sym c.is_empty.ensures ∙ c.if-is_empty.true))
 
 pub returns-else-is_empty : goal.returns-else-is_empty
 returns-else-is_empty c =
-    one_word c.args.text.now _ _ c.from_first-text.ensures (record { bound = c.before_first.ensures.bound; cut = c.before_first.ensures.cut }) _ c.split_at.ensures.front c.split_at.ensures.back (eqb-false _ 0 (sym c.is_empty.ensures ∙ c.if-is_empty.false))
+    one_word c.args.text.now _ _ c.from_first-text.ensures c.before_first.ensures.bound c.before_first.ensures.cut _ c.split_at.ensures.front c.split_at.ensures.back (eqb-false _ 0 (sym c.is_empty.ensures ∙ c.if-is_empty.false))

@@ -1,22 +1,23 @@
 -- `find_column` meets its contract. Assumes nothing.
-use native.Mathlib.Omega.{arith}
-use Rattle.scene_cells.proofs.Walking.{before_end, found, missing, more, start}
+use Rattle.std.proofs.Common.{arith, ap, length, inl, rules}
+use borrow.Author.Tests.{tests}
+use Rattle.std.proofs.lemmas.Iterator.{IsFirst-from_position}
+use Rattle.std.proofs.lemmas.Iterator.Consumers.{YieldsList-from_first}
+use Rattle.scene_cells.specs.Contents.{content}
+use Rattle.scene_cells.specs.Rows.{cells_left}
+use Rattle.scene_cells.proofs.Walking.{Named, Unnamed, few, found_in}
 use Rattle.scene_cells.proofs.lookup.find_column.Goals as goal
 
-pub loop-cell-init : goal.loop-cell-init
-loop-cell-init c = start _ _ _ _
+pub position-requires-clause-fits : goal.position-requires-clause-fits
+position-requires-clause-fits c = inl (omega (arith, ap length c.new.ensures, few c.args.separator c.args.row.now))
 
-pub returns-then-column_of-column : goal.returns-then-column_of-column
-returns-then-column_of-column c = found _ _ _ _ _ _ c.loop-cell.invariant _ c.cell_at-cell.ensures _ c.column_of.ensures c.if-column_of-column.true
-
-pub returns-then-cell : goal.returns-then-cell
-returns-then-cell c = missing _ _ _ _ _ _ c.loop-cell.invariant _ c.cell_at-cell.ensures _ c.column_of.ensures c.if-column_of-column.false c.if-cell.true
-
-pub overflow_add-k : goal.overflow_add-k
-overflow_add-k c = omega (arith, c.loop-cell.invariant.low, before_end _ _ _ _ c.cell_at-cell.ensures c.if-cell.false)
-
-pub loop-cell-smaller : goal.loop-cell-smaller
-loop-cell-smaller c = omega (arith, c.cell_at-cell.ensures.next_within, c.cell_at-cell.ensures.past (before_end _ _ _ _ c.cell_at-cell.ensures c.if-cell.false))
-
-pub loop-cell-preserved : goal.loop-cell-preserved
-loop-cell-preserved c = more _ _ _ _ _ _ c.loop-cell.invariant _ c.cell_at-cell.ensures _ c.column_of.ensures c.if-column_of-column.false c.if-cell.false
+pub returns : goal.returns
+returns c =
+    let s = c.args.separator in
+    let k = c.args.column in
+    let h = c.args.row.now in
+    found_in s k h c.position.result
+    (IsFirst-from_position c.position.new.self _ c.position.result (Named s k h) (Unnamed s k h) c.position.ensures.ran
+    (YieldsList-from_first content (λ s. cells_left s.separator s.row) _ c.new.ensures)
+    (λ x q e. search (rules, tests))
+    (λ x q e. search (rules, tests)))

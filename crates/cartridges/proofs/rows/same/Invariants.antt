@@ -1,9 +1,0 @@
--- `same` is safe and ends. Assumes nothing.
-use Rattle.std.proofs.Common.{◌-◌, ◌≤◌}
-use Rattle.cartridges.proofs.rows.same.Given as goal
-
-abbrev pub invariant-loop-i : goal.invariant-loop-i
-invariant-loop-i l = l.i ≤ 10
-
-abbrev pub decreases-loop-i : goal.decreases-loop-i
-decreases-loop-i l = 10 - l.i

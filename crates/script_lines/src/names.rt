@@ -1,0 +1,66 @@
+// The names of lines: each call by its letter and its word, then what sets up, shows and expects.
+#[derive(Clone, Copy, PartialEq, Eq, Debug)]
+pub enum CallName {
+    Read,
+    Write,
+    PictureRead,
+    PictureWrite,
+    View,
+    Reset,
+    Level,
+    Forecast,
+    ReadBus,
+}
+
+#[derive(Clone, Copy, PartialEq, Eq, Debug)]
+pub enum Name {
+    Call(CallName),
+    Clock,
+    Filled,
+    LayoutS,
+    Create,
+    Registers,
+    Buffers,
+    Dump,
+    Lend,
+    Poke,
+    Expect,
+    OpenBus,
+    Heading,
+}
+
+// What the names stand for, in the order of `LINE_NAMES`.
+pub const NAMES: [Name; 32] = [
+    Name::Call(CallName::Read),
+    Name::Call(CallName::Read),
+    Name::Call(CallName::Write),
+    Name::Call(CallName::Write),
+    Name::Call(CallName::PictureRead),
+    Name::Call(CallName::PictureRead),
+    Name::Call(CallName::PictureWrite),
+    Name::Call(CallName::PictureWrite),
+    Name::Call(CallName::View),
+    Name::Call(CallName::View),
+    Name::Call(CallName::Reset),
+    Name::Call(CallName::Reset),
+    Name::Call(CallName::Level),
+    Name::Call(CallName::Level),
+    Name::Call(CallName::Forecast),
+    Name::Call(CallName::Forecast),
+    Name::Call(CallName::ReadBus),
+    Name::Call(CallName::ReadBus),
+    Name::Clock,
+    Name::Clock,
+    Name::Filled,
+    Name::LayoutS,
+    Name::Create,
+    Name::Registers,
+    Name::Buffers,
+    Name::Dump,
+    Name::Lend,
+    Name::Poke,
+    Name::Expect,
+    Name::OpenBus,
+    Name::OpenBus,
+    Name::Heading,
+];
