@@ -38,7 +38,12 @@ fn put_flag(out: &mut Output, flag: bool) {
 
 fn put_irq(out: &mut Output, irq: &VrcIrq) {
     put!(out; "DI {} {} {}", irq.reload, irq.counter, irq.prescalar_counter);
-    for flag in [irq.irq_pending, irq.enabled, irq.enabled_after_ack, irq.cycle_mode] {
+    for flag in [
+        irq.irq_pending,
+        irq.enabled,
+        irq.enabled_after_ack,
+        irq.cycle_mode,
+    ] {
         put_flag(out, flag);
     }
     out.put(b'\n');

@@ -125,7 +125,5 @@ fn same_at(one: &Board, other: &Board, name: BoardValue, count: u32, apart: u32)
 
 // Whether two boards have the same values. A sum is compared by its bits, which a derived `==` would not do.
 pub fn same(one: &Board, other: &Board) -> bool {
-    PLACES
-        .iter()
-        .all(|(name, count, apart)| same_at(one, other, *name, *count, *apart))
+    PLACES.iter().all(|(name, count, apart)| same_at(one, other, *name, *count, *apart))
 }

@@ -33,7 +33,10 @@ pub struct Buffers {
 }
 
 impl Lent {
-    const NONE: Lent = Lent { fixed: 0, changing: 0 };
+    const NONE: Lent = Lent {
+        fixed: 0,
+        changing: 0,
+    };
 
     // The lengths of a layout's buffers. One above its limits gets no bytes, and create refuses it.
     fn of(layout: MemoryLayout) -> Lent {
@@ -97,7 +100,11 @@ impl Buffers {
         }
         fixed[..1024].fill(0);
         fill(&mut fixed[1024..], 1024, seed);
-        fill(self.lent_mut(Buffer::Changing), (n % 0x1_0000_0000) as u32, seed);
+        fill(
+            self.lent_mut(Buffer::Changing),
+            (n % 0x1_0000_0000) as u32,
+            seed,
+        );
     }
 
     // What the lent bytes are when a board is created.

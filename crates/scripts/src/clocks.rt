@@ -39,7 +39,13 @@ pub fn clock_times(board: &mut Board, n: u32) -> Told {
             return Told::number(clocked.refusal);
         }
         *board = clocked.board;
-        count(&mut clocks, k, clocked.ticked, board.irq.irq_pending, board.audio);
+        count(
+            &mut clocks,
+            k,
+            clocked.ticked,
+            board.irq.irq_pending,
+            board.audio,
+        );
     }
     Told::said(Said::Clocks(clocks))
 }

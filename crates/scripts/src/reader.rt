@@ -45,7 +45,11 @@ impl Reader {
     fn last(&mut self) -> Option<&[u8]> {
         let from = self.from;
         self.from = self.to;
-        if from < self.to { Some(&self.input[from..self.to]) } else { None }
+        if from < self.to {
+            Some(&self.input[from..self.to])
+        } else {
+            None
+        }
     }
 
     // The next line, without its line feed, which the last one may lack; none at the file's end. Each turn reads a byte or more, so

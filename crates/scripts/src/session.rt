@@ -267,7 +267,8 @@ impl Session {
             Line::Poke(place, n) => self.poke(board, place, n)?,
             Line::Expect(place, expected) => {
                 let got = self.found(board, place);
-                self.rows.row(out, text, self.line, place.value, expected, got);
+                self.rows
+                    .row(out, text, self.line, place.value, expected, got);
             }
             _ => self.show(out, &board, line),
         }
