@@ -26,10 +26,7 @@ pub enum Part {
 fn values_in_range(banking: Banking, engine: Engine, addr: u16) -> bool
     ensures { result ≡ values_in_range banking engine.irq engine.audio addr }
 {
-    if addr < 0x8000 {
-        return true;
-    }
-    banking.in_range() & engine.in_range()
+    (addr < 0x8000) || (banking.in_range() & engine.in_range())
 }
 
 // A CPU write's byte, if nothing is refused, by the parts of a board that it checks.
