@@ -22,7 +22,7 @@ pub struct NesHeader {
 }
 
 // What a board is created from, and where PRG and CHR begin in the file.
-#[derive(Clone, Copy)]
+#[derive(Clone, Copy, Debug, PartialEq, Eq)]
 pub struct Cartridge {
     pub layout: MemoryLayout,
     pub mirroring: Mirroring,

@@ -1,7 +1,8 @@
 // A file's bytes by its name.
 #![tactic(auto)]
 
-ghost use Rattle.std.specs.Prelude.{◌≤◌, length, IfOk};
+ghost use Rattle.std.specs.Prelude.{◌<◌, ◌≤◌, length, take, IfOk};
+ghost use Rattle.std.specs.Io.KnownBytes.{Consumes, IsAtEnd};
 
 use std::fs::{Files, open};
 use std::io::{Error, ErrorKind, Print, Read, Stderr, Write};
@@ -11,8 +12,11 @@ use std::io::{Error, ErrorKind, Print, Read, Stderr, Write};
 pub const LONGEST: usize = 524816;
 
 // Reads until the buffer is full or the file ends, and hands back how many bytes stand at the buffer's start.
+// A loop of its own: what std has for this allocates, or fails at the end of a short file.
 fn fill<F: Read>(file: &mut F, bytes: &mut [u8]) -> Result<usize, Error>
-    ensures { IfOk result (λ n. n ≤ length bytes.new) }
+    ensures fits { IfOk result (λ n. n ≤ length bytes.new) }
+    ensures first { IfOk result (λ n. Consumes (F.remaining file.old) (F.remaining file.new) (take n bytes.new)) }
+    ensures end { IfOk result (λ n. n < length bytes.new → IsAtEnd (F.remaining file.new)) }
 {
     let mut done = 0;
     while done < bytes.len() {
@@ -27,7 +31,9 @@ fn fill<F: Read>(file: &mut F, bytes: &mut [u8]) -> Result<usize, Error>
 
 // The file's bytes, as many as fit.
 pub fn read_full<'a, F: Read>(file: &mut F, bytes: &'a mut [u8]) -> Result<&'a [u8], Error>
-    ensures { IfOk result (λ read. length read.now ≤ length bytes.old) }
+    ensures fits { IfOk result (λ read. length read.now ≤ length bytes.old) }
+    ensures first { IfOk result (λ read. Consumes (F.remaining file.old) (F.remaining file.new) read.now) }
+    ensures end { IfOk result (λ read. length read.now < length bytes.old → IsAtEnd (F.remaining file.new)) }
 {
     let n = fill(file, bytes)?;
     Ok(&bytes[..n])

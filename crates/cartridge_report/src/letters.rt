@@ -5,7 +5,7 @@ ghost use Rattle.cartridge_report.specs.Letters.{mirroring_letter, revision_lett
 use vrc6_banking::banking::{Mirroring, Revision};
 
 // The letter of a mirroring.
-pub(crate) fn mirroring_letter(mirroring: Mirroring) -> &'static str
+pub fn mirroring_letter(mirroring: Mirroring) -> &'static str
     ensures { result.now ≡ mirroring_letter mirroring ∷ [] }
 {
     match mirroring {
@@ -18,7 +18,7 @@ pub(crate) fn mirroring_letter(mirroring: Mirroring) -> &'static str
 }
 
 // The letter of a revision.
-pub(crate) fn revision_letter(revision: Revision) -> &'static str
+pub fn revision_letter(revision: Revision) -> &'static str
     ensures { result.now ≡ revision_letter revision ∷ [] }
 {
     match revision {

@@ -2,7 +2,7 @@
 #![tactic(auto)]
 
 pub mod answers;
-mod letters;
+pub mod letters;
 
 use crate::letters::{mirroring_letter, revision_letter};
 use base_shared::Refusal;

@@ -1,5 +1,5 @@
 // A row: the first bytes of a file, how many bytes it has, and what `read_header` must answer (oracle/FORMAT.md).
-ghost use Rattle.std.specs.Prelude.{◌≤◌, IfOk};
+ghost use Rattle.std.specs.Prelude.{◌≤◌, IfSome};
 
 use base_shared::Refusal;
 use cartridge::Cartridge;
@@ -48,12 +48,6 @@ pub struct Row {
     ghost fits: { length ≤ 600000 },
 }
 
-// The byte that two digits write.
-fn byte_of(digits: &[u8]) -> Option<u8> {
-    let value = in_base(digits, 16, 255).ok()?;
-    u8::try_from(value).ok()
-}
-
 // The bytes of a word, two digits each; - stands for none.
 fn head_of(word: &[u8]) -> Option<[u8; 16]> {
     let mut head = [0; 16];
@@ -64,18 +58,16 @@ fn head_of(word: &[u8]) -> Option<[u8; 16]> {
         return None;
     }
     for (byte, digits) in head.iter_mut().zip(word.chunks(2)) {
-        *byte = byte_of(digits)?;
+        *byte = in_base(digits, 16, 255).ok()? as u8;
     }
     Some(head)
 }
 
-fn length_of(word: &[u8]) -> Result<usize, RowError>
-    ensures { IfOk result (λ length. length ≤ 600000) }
+fn length_of(word: &[u8]) -> Option<usize>
+    ensures { IfSome result (λ length. length ≤ 600000) }
 {
-    match in_base(word, 10, LONGEST_FILE as u32) {
-        Ok(length) => Ok((length as usize).min(LONGEST_FILE)),
-        Err(_) => Err(RowError::NoLength),
-    }
+    let length = in_base(word, 10, LONGEST_FILE as u32).ok()?;
+    Some(length as usize)
 }
 
 fn number_of(word: &[u8]) -> Option<u32> {
@@ -141,7 +133,7 @@ fn answer_of(text: &[u8]) -> Option<Result<Cartridge, Refusal>> {
 pub(crate) fn read_row(line: &[u8]) -> Result<Row, RowError> {
     let mut words = Words { text: line };
     let head = words.next().and_then(head_of).ok_or(RowError::NoBytes)?;
-    let length = length_of(words.next().ok_or(RowError::NoLength)?)?;
+    let length = words.next().and_then(length_of).ok_or(RowError::NoLength)?;
     if words.next() != Some(b"=".as_slice()) {
         return Err(RowError::NoEquals);
     }

@@ -1,6 +1,6 @@
 -- An accepted file and the buffers of its layout: their lengths, the refusal's number, the bytes. Assumes nothing.
 use mathlib.Core.Path.{◌≡◌, refl, sym, ap, ap₂, ◌∙◌}
-use mathlib.Core.Bool.{true, false, cond}
+use mathlib.Core.Bool.{Bool, true, false, cond}
 use mathlib.Core.List.{List, [], ◌∷◌}
 use Prim.Native.Nat.{ℕ, ◌+◌, ◌*◌, ◌≤◌}
 use native.Mathlib.Omega.{arith}
@@ -8,21 +8,20 @@ use lib.Dec.{eqb}
 use lib.ListN.{length, replicate, take, drop, length-append, length-drop}
 use lib.Seq.{length-take-le}
 use borrow.Author.Tests.{eqb-true}
+use Rattle.std.specs.Prelude.{Result, Ok, Err}
+use Rattle.base_shared.specs.declared.Refusal.{Refusal}
+use Rattle.base_shared.specs.declared.Refusal.TheVariants.{NoHeader, Mapper, FileLength}
+use Rattle.base_shared.specs.Numbers.{number}
 use Rattle.base_shared.specs.Refusals.{first_failing}
-use Rattle.base_shared.proofs.Tests.{and_left, tested, first_refused, unless_done, unless_refused}
-use Rattle.base_shared.proofs.Numbers.{none_fails, decided_behind}
-use Rattle.memory_layout.specs.Required.{Limits}
-use Rattle.memory_layout.proofs.Limited.{limits}
-use Rattle.memory_layout.specs.Layout.{whole_pages, fixed_chr, fixed_length, changing_length, lengths_fit}
+use Rattle.base_shared.proofs.Tests.{and_left, tested}
+use Rattle.memory_layout.specs.Layout.{whole_pages, fixed_chr, fixed_length, changing_length, lengths_fit, layout_checks}
 use Rattle.cartridge.specs.declared.cartridge.Cartridge.{Cartridge}
 use Rattle.cartridge.specs.declared.cartridge.NesHeader.{NesHeader}
-use Rattle.cartridge_header.specs.declared.HeaderRead.TheVariants.{Accepted, Refused}
-use Rattle.cartridge.specs.Cartridges.{prg_start, stated_layout}
-use Rattle.cartridge_header.specs.Ines.{header_checks, read_header, stated_by}
+use Rattle.cartridge.specs.Cartridges.{prg_start, stated_layout, fits}
+use Rattle.cartridge_header.specs.Ines.{is_ines, is_supported, read_header, stated_by, unless_failing}
 use Rattle.cartridge_header.proofs.Meanings.{file_end_lem}
-use Rattle.cartridge_header.proofs.Numbers.{accepted_by, refused_number}
 use Rattle.cartridge_header.proofs.Places.{known, in_file_law}
-use Rattle.host_cartridge.specs.Filled.{cartridge_in, fill_refusal, fixed_of, fixed_filled, changing_filled, rom_from}
+use Rattle.host_cartridge.specs.Filled.{cartridge_in, fill_refusal, fixed_of, rom_from}
 use Rattle.host_cartridge.proofs.Runs.{length_zeros, two_parts}
 
 -- ---- lengths
@@ -49,26 +48,10 @@ chr_rom h =
 rom_bytes : (h : NesHeader) → fixed_length (stated_layout h) ≡ 1024 + 16384 * h.prg_rom_banks + fixed_chr (stated_layout h)
 rom_bytes h = ap (λ (n : ℕ). 1024 + n + fixed_chr (stated_layout h)) (prg_pages h.prg_rom_banks)
 
--- what `fill_from_file` leaves: its number and both buffers
-pub record Left (file fixed changing : List ℕ) (number : ℕ) (first second : List ℕ) : Type 0 where
-  pub number_is : number ≡ fill_refusal file (length fixed) (length changing)
-  pub fixed_is : first ≡ fixed_filled file fixed changing
-  pub changing_is : second ≡ changing_filled file fixed changing
-
 -- ---- an accepted file
-module _ (file : List ℕ) (c : Cartridge) (accepted : read_header file ≡ Accepted c) where
+module _ (file : List ℕ) (c : Cartridge) (accepted : read_header file ≡ Ok c) where
   stated : c ≡ cartridge_in file
   stated = (known file c accepted).stated
-
-  pub laid_out : Limits c.layout
-  laid_out = limits c.layout (in_file_law file c accepted).limits
-
-  -- the header's tests hold, so the last one decides
-  fill_number : (m n : ℕ) → fill_refusal file m n ≡ cond (lengths_fit c.layout m n) 0 2
-  fill_number m n =
-      let got = accepted_by (cartridge_in file) (first_failing (header_checks file)) c accepted in
-      decided_behind (header_checks file) ((lengths_fit (cartridge_in file).layout m n, 2) ∷ []) ((none_fails (header_checks file) refl).0 got.0)
-      ∙ ap (λ (d : Cartridge). cond (lengths_fit d.layout m n) 0 2) (sym stated)
 
   module _ (m n : ℕ) (fit : lengths_fit c.layout m n ≡ true) where
     long : m ≡ 1024 + 16384 * (stated_by file).prg_rom_banks + fixed_chr (stated_layout (stated_by file))
@@ -91,47 +74,44 @@ module _ (file : List ℕ) (c : Cartridge) (accepted : read_header file ≡ Acce
     loaded_length =
         ap length (sym loaded) ∙ length-take-le m (rom_from c.prg_start file) (rom_size c.prg_start file m enough)
 
-    number_none : fill_refusal file m n ≡ 0
-    number_none = fill_number m n ∙ rw fit
 
-  -- where the lengths are the layout's, and where they are not
-  module _ (fixed changing : List ℕ) where
-    pub left_filled : lengths_fit c.layout (length fixed) (length changing) ≡ true → {first second : List ℕ}
-        → first ≡ take (length fixed) (rom_from c.prg_start file) → second ≡ replicate (length changing) 0
-        → Left file fixed changing 0 first second
-    left_filled fit f s =
-        let none = number_none (length fixed) (length changing) fit in
-        record {
-          number_is = sym none;
-          fixed_is =
-              f ∙ loaded (length fixed) (length changing) fit
-              ∙ sym (unless_done (fixed_of file) fixed (fill_refusal file (length fixed) (length changing)) (fill_refusal file (length fixed) (length changing)) refl none);
-          changing_is =
-              s
-              ∙ sym (unless_done (replicate (length changing) 0) changing (fill_refusal file (length fixed) (length changing)) (fill_refusal file (length fixed) (length changing)) refl none);
-        }
+-- ---- the number
+-- the header's three tests and a fourth: where the header is refused its number counts, and where not the fourth decides
+module _ (k : Cartridge) where
+  answered : (a b z : Bool) → Result Cartridge Refusal
+  answered a b z = unless_failing ((a, NoHeader) ∷ (b, Mapper) ∷ (z, FileLength) ∷ []) k
 
-    pub left_as_was : lengths_fit c.layout (length fixed) (length changing) ≡ false → Left file fixed changing 2 fixed changing
-    left_as_was fit =
-        let two : fill_refusal file (length fixed) (length changing) ≡ 2 = fill_number (length fixed) (length changing) ∙ rw fit in
-        record {
-          number_is = sym two;
-          fixed_is = sym (unless_refused (fixed_of file) fixed (fill_refusal file (length fixed) (length changing)) 2 (sym two) (λ h. omega arith));
-          changing_is = sym (unless_refused (replicate (length changing) 0) changing (fill_refusal file (length fixed) (length changing)) 2 (sym two) (λ h. omega arith));
-        }
+  counted : (a b z t : Bool) → ℕ
+  counted a b z t = first_failing ((a, 5) ∷ (b, 6) ∷ (z, 7) ∷ (t, 2) ∷ [])
 
--- ---- a refused file
-module _ (file : List ℕ) (number : ℕ) (refused : read_header file ≡ Refused number) (fixed changing : List ℕ) where
-  pub left_refused : Left file fixed changing number fixed changing
-  left_refused =
-      let n = first_failing (header_checks file) in
-      let got = refused_number (cartridge_in file) n number refused in
-      let some : n ≡ 0 → ⊥ = λ h. got.1 (sym got.0 ∙ h) in
-      let same : number ≡ fill_refusal file (length fixed) (length changing) =
-      sym got.0
-      ∙ sym (first_refused (header_checks file) ((lengths_fit (cartridge_in file).layout (length fixed) (length changing), 2) ∷ []) some) in
-      record {
-        number_is = same;
-        fixed_is = sym (unless_refused (fixed_of file) fixed (fill_refusal file (length fixed) (length changing)) number same got.1);
-        changing_is = sym (unless_refused (replicate (length changing) 0) changing (fill_refusal file (length fixed) (length changing)) number same got.1);
-      }
+  refused_number : (a b z t : Bool) (r : Refusal) → answered a b z ≡ Err r → number r ≡ counted a b z t
+  unfolding (answered, counted)
+  refused_number true true true t r h = cc
+  refused_number true true false t r h = let e : r ≡ FileLength = cc in ap number e
+  refused_number true false z t r h = let e : r ≡ Mapper = cc in ap number e
+  refused_number false b z t r h = let e : r ≡ NoHeader = cc in ap number e
+
+  accepted_number : (a b z t : Bool) (c : Cartridge) → answered a b z ≡ Ok c → counted a b z t ≡ cond t 0 2
+  unfolding (answered, counted)
+  accepted_number true true true t c h = refl
+  accepted_number true true false t c h = cc
+  accepted_number true false z t c h = cc
+  accepted_number false b z t c h = cc
+
+module _ (file : List ℕ) (m n : ℕ) where
+  pub of_refused : (r : Refusal) → read_header file ≡ Err r → number r ≡ fill_refusal file m n
+  unfolding (answered, counted)
+  of_refused r h =
+      refused_number (cartridge_in file) (is_ines file) (is_supported file) (fits (stated_by file) (length file))
+      (lengths_fit (cartridge_in file).layout m n) r h
+
+  pub of_accepted : (c : Cartridge) → read_header file ≡ Ok c → fill_refusal file m n ≡ cond (lengths_fit c.layout m n) 0 2
+  unfolding (answered, counted)
+  of_accepted c h =
+      accepted_number (cartridge_in file) (is_ines file) (is_supported file) (fits (stated_by file) (length file))
+      (lengths_fit (cartridge_in file).layout m n) c h
+      ∙ ap (λ (d : Cartridge). cond (lengths_fit d.layout m n) 0 2) (sym (known file c h).stated)
+
+  -- the layout's own two tests say the same
+  pub checked : (c : Cartridge) → read_header file ≡ Ok c → first_failing (layout_checks c.layout m n) ≡ fill_refusal file m n
+  checked c h = rw ((in_file_law file c h).limits) (sym (of_accepted c h))

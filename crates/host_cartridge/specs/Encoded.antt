@@ -1,10 +1,9 @@
 -- A cartridge as numbers, since no enum crosses to C (02, change 2). Assumes nothing.
-use Rattle.std.specs.Prelude.{false, ℕ}
-use Rattle.base_shared.specs.Rows.{flag}
-use Rattle.vrc6_banking.specs.Banking.{mirroring_number, is_b}
+use Rattle.std.specs.Prelude.{false, ℕ, Result, Ok, Err}
+use Rattle.base_shared.specs.declared.Refusal.{Refusal}
+use Rattle.base_shared.specs.Numbers.{number}
+use Rattle.vrc6_banking.specs.Banking.{mirroring_number, revision_number}
 use Rattle.cartridge.specs.declared.cartridge.Cartridge.{Cartridge}
-use Rattle.cartridge_header.specs.declared.HeaderRead.{HeaderRead}
-use Rattle.cartridge_header.specs.declared.HeaderRead.TheVariants.{Accepted, Refused}
 use Rattle.host_cartridge.specs.declared.encoded.EncodedCartridge.{EncodedCartridge}
 
 -- a cartridge, its mirroring and revision by their numbers (02, change 2)
@@ -13,7 +12,7 @@ cartridge_encoded c =
     record {
       layout = c.layout;
       mirroring = mirroring_number c.mirroring;
-      revision = flag (is_b c.revision);
+      revision = revision_number c.revision;
       prg_start = c.prg_start;
       chr_start = c.chr_start;
       refusal = 0;
@@ -32,6 +31,6 @@ refused_by n =
     }
 
 -- what a file says, as numbers (02, change 2)
-abbrev pub header_encoded : HeaderRead → EncodedCartridge
-header_encoded (Accepted c) = cartridge_encoded c
-header_encoded (Refused n) = refused_by n
+abbrev pub header_encoded : Result Cartridge Refusal → EncodedCartridge
+header_encoded (Ok c) = cartridge_encoded c
+header_encoded (Err refusal) = refused_by (number refusal)

@@ -1,7 +1,7 @@
 // The arguments of a program, as bytes: one that is no UTF-8 text is told as it stands.
 #![tactic(auto)]
 
-ghost use Rattle.std.specs.Prelude.{◌≡◌, ℕ, ◌-◌, ◌^◌, ◌≤◌, List, length, take};
+ghost use Rattle.std.specs.Prelude.{◌≡◌, ℕ, ◌+◌, ◌-◌, ◌^◌, ◌≤◌, List, take, OnSome};
 ghost use Rattle.std.specs.Iterator.{at_most};
 
 use std::env::{Env, FillError};
@@ -41,8 +41,17 @@ pub struct Arguments<'a, E: Env> {
     place: usize,
 }
 
+// How many of them have been told.
+impl<'a, E: Env> Model for Arguments<'a, E> {
+    ghost Value = { ℕ };
+
+    ghost view = { λ a. a.place };
+}
+
 impl<'a, E: Env> Arguments<'a, E> {
-    pub fn new(env: &'a E) -> Arguments<'a, E> {
+    pub fn new(env: &'a E) -> Arguments<'a, E>
+        ensures { result ≡ 0 }
+    {
         Arguments { env, place: 0 }
     }
 }
@@ -50,7 +59,9 @@ impl<'a, E: Env> Arguments<'a, E> {
 impl<'a, E: Env> Iterator for Arguments<'a, E> {
     type Item = Argument;
 
-    ghost remaining = { λ s. at_most (2 ^ 64 - 1 - s.place) };
+    ghost next_gives = { λ old argument new. OnSome argument (new ≡ old + 1) };
+
+    ghost remaining = { λ told. at_most (2 ^ 64 - 1 - told) };
 
     fn next(&mut self) -> Option<Argument> {
         if self.place == usize::MAX {

@@ -7,30 +7,17 @@ ghost use Rattle.scene_banks.specs.Shown.{bank_at, bank_shown};
 use memory_layout::{MemoryLayout, Region, Src};
 use memory_pages::Page;
 
-// Shown where a slot shows no bank of CHR.
-pub const NO_BANK: u32 = 0xFFFF_FFFF;
-
 // The bank of 1 KiB, counted from the start of CHR, that an offset lies in.
-fn bank_at(chr: Region, at: u32) -> u32
+fn bank_at(chr: Region, at: u32) -> Option<u32>
     ensures { result ≡ bank_at chr at }
 {
-    let start = chr.start;
-    if at < start {
-        return NO_BANK;
-    }
-    let far = at - start;
-    if far < chr.len {
-        return far / 1024;
-    }
-    NO_BANK
+    let far = at.checked_sub(chr.start)?;
+    if far < chr.len { Some(far / 1024) } else { None }
 }
 
-// The bank that an entry shows.
-pub fn bank_shown(layout: MemoryLayout, page: Page) -> u32
+// The bank that an entry shows, if it shows one of CHR.
+pub fn bank_shown(layout: MemoryLayout, page: Page) -> Option<u32>
     ensures { result ≡ bank_shown layout page }
 {
-    if layout.within_limits() {
-        return bank_at(layout.region(Src::Chr), page.offset());
-    }
-    NO_BANK
+    bank_at(layout.limited()?.region(Src::Chr), page.offset())
 }

@@ -1,16 +1,9 @@
 -- What calls made one after the other leave. Assumes nothing.
-use mathlib.Core.Path.{◌≡◌, refl, sym, ap, ◌∙◌}
-use mathlib.Core.List.{List, [], ◌∷◌, ◌++◌}
-use Prim.Native.Nat.{ℕ, zero, suc, ◌+◌, ◌≤◌, ◌<◌}
-use native.Mathlib.Omega.{arith}
-use native.Mathlib.Numerals.{add-one}
-use lib.ListN.{length, drop, get_or, replicate}
+use Rattle.std.proofs.Common.{◌≡◌, ℕ, zero, suc, ◌+◌, ◌<◌, List, [], ◌∷◌, ◌++◌, length, get_or, take, drop, replicate, refl, sym, ap, ◌∙◌, arith, add-one, append-nil, append_assoc, drop-cons}
 use Rattle.vrc6_calls.specs.declared.Call.{Call}
 use Rattle.vrc6.specs.Boards.{State}
 use Rattle.vrc6_calls.specs.Lists.{next, after}
 use Rattle.scene_steps.specs.declared.step.Step.{Step}
-use Rattle.scene_steps.specs.Steps.{step_coded}
-use Rattle.scene_steps.proofs.Walked.{Walked, none_taken, one_taken, all_taken}
 use Rattle.scene_board.specs.Played.{calls_of, step_calls}
 
 -- ---- lists of calls
@@ -20,63 +13,42 @@ joined [] js x = refl
 joined (k ∷ ks) js x = joined ks js (next x k)
 
 -- a call n times, and once more
-once_more : (n : ℕ) (k : Call) (x : State) → next (after x (replicate n k)) k ≡ after x (replicate (suc n) k)
-once_more zero k x = refl
-once_more (suc n) k x = once_more n k (next x k)
+again : (n : ℕ) (k : Call) (x : State) → next (after x (replicate n k)) k ≡ after x (replicate (suc n) k)
+again zero k x = refl
+again (suc n) k x = again n k (next x k)
 
--- of n times the same call, i are made
-pub record Times (n : ℕ) (k : Call) (first now : State) (i : ℕ) : Type 0 where
-  pub within : i ≤ n
-  pub so_far : now ≡ after first (replicate i k)
+-- a call is made n times
+pub record Times (k : Call) (first now : State) (n : ℕ) : Type 0 where
+  pub made : now ≡ after first (replicate n k)
 
--- at the start
-pub no_times : (n : ℕ) (k : Call) (x : State) → Times n k x x 0
-no_times n k x = record { within = omega arith; so_far = refl }
-
--- after one more
-pub one_more : (n : ℕ) (k : Call) (first now then : State) (i : ℕ) → Times n k first now i → i < n → then ≡ next now k
-    → Times n k first then (i + 1)
-one_more n k first now then i t h e =
-    record {
-      within = omega arith;
-      so_far =
-          e
-          ∙ ap (λ (x : State). next x k) t.so_far
-          ∙ once_more i k first
-          ∙ sym (ap (λ (j : ℕ). after first (replicate j k)) (add-one i));
-    }
-
--- at the end
-pub all_times : (n : ℕ) (k : Call) (first now : State) (i : ℕ) → Times n k first now i → n ≤ i → now ≡ after first (replicate n k)
-all_times n k first now i t h =
-    let e : i ≡ n = omega arith in t.so_far ∙ ap (λ (j : ℕ). after first (replicate j k)) e
+pub once_more : (k : Call) (first now then : State) (n : ℕ) → Times k first now n → then ≡ next now k → Times k first then (n + 1)
+once_more k first now then n t f =
+    record { made = f ∙ ap (λ (x : State). next x k) t.made ∙ again n k first ∙ sym (ap (λ (j : ℕ). after first (replicate j k)) (add-one n)) }
 
 -- ---- steps
--- one step: s as `step_coded` gives it, k as the match found it
-pub by_kind : (code : ℕ) (s k : Step) (x then : State) → s ≡ step_coded code → s ≡ k → then ≡ after x (step_calls k)
-    → then ≡ after x (step_calls (step_coded code))
-by_kind code s k x then e f t = t ∙ ap (λ (g : Step). after x (step_calls g)) (sym f ∙ e)
+-- i steps are played, and those that are left lead to the same end
+pub record Left (steps : List Step) (first now : State) (i : ℕ) : Type 0 where
+  pub rest : after now (calls_of (drop i steps)) ≡ after first (calls_of steps)
 
--- the state after steps, given as their numbers
-abbrev played_to : List ℕ → State → State
-played_to codes x = after x (calls_of codes)
+pub one_on : (steps : List Step) (first now then : State) (i : ℕ) (d : Step) → Left steps first now i → i < length steps
+    → then ≡ after now (step_calls (get_or steps i d)) → Left steps first then (i + 1)
+one_on steps first now then i d l h f =
+    record {
+      rest =
+          ap (λ (x : State). after x (calls_of (drop (i + 1) steps))) f
+          ∙ ap (λ (j : ℕ). after (after now (step_calls (get_or steps i d))) (calls_of (drop j steps))) (add-one i)
+          ∙ sym (joined (step_calls (get_or steps i d)) (calls_of (drop (suc i) steps)) now)
+          ∙ sym (ap (λ (r : List Step). after now (calls_of r)) (drop-cons steps i d h))
+          ∙ l.rest;
+    }
 
--- of the steps, i are played
-abbrev pub Done : (codes : List ℕ) (first now : State) (i : ℕ) → Type 0
-Done codes first now i = Walked played_to codes first now i
+-- the calls of a step more
+longer : (l : List Step) (i : ℕ) (d : Step) → i < length l → calls_of (take (suc i) l) ≡ calls_of (take i l) ++ step_calls (get_or l i d)
+longer [] i d h = absurd (omega arith)
+longer (c ∷ l) zero d h = append-nil (step_calls c)
+longer (c ∷ l) (suc i) d h =
+    ap (λ (ks : List Call). step_calls c ++ ks) (longer l i d (omega arith))
+    ∙ sym (append_assoc (step_calls c) (calls_of (take i l)) (step_calls (get_or l i d)))
 
--- at the start
-pub none : (codes : List ℕ) (x : State) → Done codes x x 0
-none codes x = none_taken played_to codes x
-
--- after one more
-pub more : (codes : List ℕ) (first now then : State) (i : ℕ) → Done codes first now i → i < length codes
-    → then ≡ after now (step_calls (step_coded (get_or codes i 0))) → Done codes first then (i + 1)
-more codes first now then i d h e =
-    one_taken played_to codes first now i d then h
-    (joined (step_calls (step_coded (get_or codes i 0))) (calls_of (drop (suc i) codes)) now
-    ∙ sym (ap (λ (x : State). after x (calls_of (drop (suc i) codes))) e))
-
--- at the end
-pub all : (codes : List ℕ) (first now : State) (i : ℕ) → Done codes first now i → length codes ≤ i → now ≡ after first (calls_of codes)
-all codes first now i d h = all_taken played_to codes first now i d (λ x. refl) h
+pub steps_on : (l : List Step) (i : ℕ) (d : Step) → i < length l → calls_of (take (i + 1) l) ≡ calls_of (take i l) ++ step_calls (get_or l i d)
+steps_on l i d h = ap (λ (j : ℕ). calls_of (take j l)) (add-one i) ∙ longer l i d h

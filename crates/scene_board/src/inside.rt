@@ -2,66 +2,60 @@
 ghost use Rattle.std.specs.Prelude.{◌≡◌};
 ghost use Rattle.vrc6.specs.Boards.{held_by};
 ghost use Rattle.scene_board.specs.Ended.{written_state};
-ghost use Rattle.scene_board.specs.Inside.{MarkedSteps, letter_mark};
+ghost use Rattle.scene_board.specs.Inside.{MarkedSteps, wrong_letters};
 
-use crate::ended::slots_shown;
+use crate::ended::{Scene, slots_shown};
 use crate::{play, play_step};
-use host_creation::{NumberedSettings, create_numbered};
+use host_creation::create_numbered;
 use memory_layout::MemoryLayout;
+use scene_steps::Step;
 use scene_steps::letters::slots_right;
 use vrc6::Board;
 
-// 1 if a slot shows another bank than the one asked.
-fn letter_mark(layout: MemoryLayout, board: Board, asked: [u32; 8]) -> u8
-    ensures { result ≡ letter_mark layout board.chr_pages asked }
+// Whether a slot shows another bank than the one asked.
+fn wrong_letters(layout: MemoryLayout, board: Board, asked: [Option<u32>; 8]) -> bool
+    ensures { result ≡ wrong_letters layout board.chr_pages asked }
 {
-    let pages = board.chr_pages;
-    let shown = slots_shown(layout, pages);
-    if slots_right(shown, asked) {
-        return 0;
-    }
-    1
+    !slots_right(slots_shown(layout, board.chr_pages), asked)
 }
 
-// Marks the steps, given as their numbers, of a menu that begins on a board.
+// Marks the steps of a menu that begins on a board.
 fn mark_steps(
     given: Board,
     layout: MemoryLayout,
     fixed: &[u8],
     changing: &mut [u8],
-    menu: &[u32],
-    asked: [u32; 8],
-    marks: &mut [u8],
+    menu: &[Step],
+    asked: [Option<u32>; 8],
+    marks: &mut [bool],
 )
     ensures { MarkedSteps layout (held_by given fixed.now changing.old) menu.now asked marks.new }
 {
     let mut board = given;
-    let mut i: usize = 0;
-    while i < menu.len() {
-        let mark = letter_mark(layout, board, asked);
+    for (i, step) in menu.iter().enumerate() {
         if i < marks.len() {
-            marks[i] = mark;
+            marks[i] = wrong_letters(layout, board, asked);
         }
-        board = play_step(board, fixed, changing, menu[i]);
-        i += 1;
+        board = play_step(board, fixed, changing, *step);
     }
 }
 
-// Marks the steps of a scene's menu.
-pub fn mark_letters(
-    layout: MemoryLayout,
-    settings: NumberedSettings,
-    fixed: &[u8],
-    changing: &mut [u8],
-    writes: &[u32],
-    menu: &[u32],
-    asked: [u32; 8],
-    marks: &mut [u8],
-)
-    ensures { MarkedSteps layout (written_state layout settings fixed.now changing.old writes.now)
-        menu.now asked marks.new }
-{
-    let created = create_numbered(layout, settings, fixed, &*changing);
-    let written = play(created.board, fixed, &mut *changing, writes);
-    mark_steps(written, layout, fixed, changing, menu, asked, marks);
+impl Scene<'_> {
+    // Marks the steps of the menu that begin with wrong letters.
+    pub fn mark_letters(self, changing: &mut [u8], asked: [Option<u32>; 8], marks: &mut [bool])
+        ensures { MarkedSteps self.entry.layout (written_state self.entry.layout self.entry.settings self.entry.fixed.now changing.old self.entry.writes.now)
+            self.entry.menu.now asked marks.new }
+    {
+        let created = create_numbered(self.layout, self.settings, self.fixed, &*changing);
+        let written = play(created.board, self.fixed, &mut *changing, self.writes);
+        mark_steps(
+            written,
+            self.layout,
+            self.fixed,
+            changing,
+            self.menu,
+            asked,
+            marks,
+        );
+    }
 }

@@ -16,11 +16,11 @@ pub struct Cells<'a> {
 
 impl<'a> Cells<'a> {
     // The cells of the row that a text begins with.
-    pub fn new(row: &'a [u8], separator: u8) -> Cells<'a>
-        ensures { cells_left result.separator result.row ≡ cells_of separator row.now }
+    pub fn new(text: &'a [u8], separator: u8) -> Cells<'a>
+        ensures { cells_left result.separator result.row ≡ cells_of separator text.now }
     {
         Cells {
-            row: Some(row),
+            row: Some(text),
             separator,
         }
     }

@@ -1,17 +1,17 @@
 -- What a cartridge says in the columns of a row (docs/SCENES.md). Assumes nothing.
-use Rattle.std.specs.Prelude.{Bool, cond, ℕ, eqb}
-use Rattle.base_shared.specs.Rows.{flag}
+use Rattle.std.specs.Prelude.{Bool, cond, ℕ}
 use Rattle.memory_layout.specs.declared.regions.MemoryLayout.{MemoryLayout}
-use Rattle.vrc6_banking.specs.Banking.{is_b, mirroring_number}
+use Rattle.vrc6_banking.specs.Banking.{mirroring_number, revision_number}
+use Rattle.scene_cells.specs.declared.columns.Column.{Column}
+use Rattle.scene_cells.specs.declared.columns.Column.TheVariants.{Prg, Chr, Revision}
 use Rattle.cartridge.specs.declared.cartridge.Cartridge.{Cartridge}
 
 -- the number of a column's cell: the lengths of PRG and CHR, revision and mirroring as a board's banking has them
-abbrev pub said_in : Cartridge → (column : ℕ) → ℕ
-said_in c column =
-    cond (eqb column 1) c.layout.prg_rom
-    (cond (eqb column 2) c.layout.chr
-    (cond (eqb column 3) (flag (is_b c.revision))
-    (mirroring_number c.mirroring)))
+abbrev pub said_in : Cartridge → Column → ℕ
+said_in c Prg = c.layout.prg_rom
+said_in c Chr = c.layout.chr
+said_in c Revision = revision_number c.revision
+said_in c _ = mirroring_number c.mirroring
 
 -- a layout with other lengths of PRG and CHR
 abbrev pub sized : MemoryLayout → (prg chr : ℕ) → MemoryLayout

@@ -1,4 +1,4 @@
-pub mod Handling
+pub mod Ranks
 pub mod Rows
 pub mod Screens
 pub mod Waiting

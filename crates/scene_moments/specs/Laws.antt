@@ -1,10 +1,15 @@
 -- What a margin is, and examples of what the definitions give. `proofs/` proves it. Assumes nothing.
-use Rattle.std.specs.Prelude.{◌≡◌, ℕ, ◌+◌, ◌-◌, ◌<◌, ◌≤◌, true, false, [], ◌∷◌}
+use Rattle.std.specs.Prelude.{◌≡◌, Bool, ℕ, ◌+◌, ◌-◌, ◌<◌, ◌≤◌, true, false, [], ◌∷◌}
 use Rattle.irq.specs.declared.VrcIrq.{VrcIrq}
 use Rattle.scene_moments.specs.declared.lines.Screen.{Screen}
 use Rattle.scene_moments.specs.declared.moment.Came.TheVariants.{On, Held, Lost}
 use Rattle.scene_moments.specs.Lines.{early_margin, late_margin, line_of}
-use Rattle.scene_moments.specs.Moments.{came, moment}
+use Rattle.scene_moments.specs.declared.moment.Moment.TheVariants.{Waiting}
+use Rattle.scene_moments.specs.declared.verdict.Verdict.TheVariants as verdict
+use Rattle.scene_moments.specs.declared.verdict.Verdict.TheVariants.{Right, Late}
+use Rattle.scene_moments.specs.declared.verdict.Window.{Window}
+use Rattle.scene_steps.specs.declared.step.Step.TheVariants.{Write, Clocks, Reset}
+use Rattle.scene_moments.specs.Moments.{came}
 use Rattle.scene_moments.specs.Verdicts.{verdict_of}
 
 -- the margins of interrupts on one line that come from clock `from` to clock `to`: fewer clocks earlier or later leave each of them on
@@ -32,23 +37,27 @@ soon =
       cycle_mode = false;
     }
 
--- handlers on clock 200, by their steps' numbers, and what they mean for a window on line 2
+-- a window on line 2, where the writes end as a line begins
+abbrev pub on_2 : (unmasked : Bool) → Window
+on_2 unmasked = record { screen = record { line = 0; dots = 0 }; line = 2; unmasked = unmasked }
+
+-- handlers on clock 200, and what they mean for that window
 pub record LostExamples : Type 0 where
   -- 60 clocks, acknowledge
-  pub acknowledged : came false (0x100003C ∷ 0xF00200 ∷ []) (moment soon 200) ≡ Lost 228 260
+  pub acknowledged : came false (Clocks 60 ∷ Write 0xF002 0 ∷ []) (Waiting soon 200) ≡ Lost 228 260
   -- 60 clocks, control
-  pub controlled : came false (0x100003C ∷ 0xF00102 ∷ []) (moment soon 200) ≡ Lost 228 260
+  pub controlled : came false (Clocks 60 ∷ Write 0xF001 2 ∷ []) (Waiting soon 200) ≡ Lost 228 260
   -- 60 clocks, 7 more, a reset
-  pub reset : came false (0x100003C ∷ 0x1000007 ∷ 0x2000000 ∷ []) (moment soon 200) ≡ Lost 228 267
+  pub reset : came false (Clocks 60 ∷ Clocks 7 ∷ Reset ∷ []) (Waiting soon 200) ≡ Lost 228 267
   -- 60 clocks, the latch, which clears nothing
-  pub latched : came false (0x100003C ∷ 0xF00000 ∷ []) (moment soon 200) ≡ Held 228 260
+  pub latched : came false (Clocks 60 ∷ Write 0xF000 0 ∷ []) (Waiting soon 200) ≡ Held 228 260
   -- 27 clocks, acknowledge: one clock before it is set
-  pub before : came false (0x100001B ∷ 0xF00200 ∷ []) (moment soon 200) ≡ On 228
+  pub before : came false (Clocks 27 ∷ Write 0xF002 0 ∷ []) (Waiting soon 200) ≡ On 228
   -- the first on revision B, where the same address is control
-  pub revision_b : came true (0x100003C ∷ 0xF00200 ∷ []) (moment soon 200) ≡ Lost 228 260
+  pub revision_b : came true (Clocks 60 ∷ Write 0xF002 0 ∷ []) (Waiting soon 200) ≡ Lost 228 260
   -- with interrupts masked the window is lost, with interrupts open it is right
-  pub masked : verdict_of false (Lost 228 260) (record { line = 0; dots = 0 }) 2 ≡ record { line = 2; off = 0; mark = 3 }
+  pub masked : verdict_of (on_2 false) (Lost 228 260) ≡ verdict.Lost 2
   -- one that is pending at the end of the handler is taken there, on line 3, or with interrupts open as it is set
-  pub held : verdict_of false (Held 228 400) (record { line = 0; dots = 0 }) 2 ≡ record { line = 3; off = 1; mark = 2 }
-  pub taken : verdict_of true (Held 228 400) (record { line = 0; dots = 0 }) 2 ≡ record { line = 2; off = 0; mark = 0 }
-  pub unmasked : verdict_of true (Lost 228 260) (record { line = 0; dots = 0 }) 2 ≡ record { line = 2; off = 0; mark = 0 }
+  pub held : verdict_of (on_2 false) (Held 228 400) ≡ Late 3 1
+  pub taken : verdict_of (on_2 true) (Held 228 400) ≡ Right 2
+  pub unmasked : verdict_of (on_2 true) (Lost 228 260) ≡ Right 2

@@ -2,7 +2,7 @@
 use Rattle.std.specs.Prelude.{ℕ, ◌+◌, ◌-◌, ◌*◌, ◌/◌, ◌%◌, cond, ◌==◌}
 use Rattle.irq.specs.Timing.{line_step, line_length}
 use Rattle.scene_steps.specs.declared.picture.At.{At}
-use Rattle.scene_steps.specs.declared.picture.At.TheVariants.{Unsaid, Line, Dot, Wrong}
+use Rattle.scene_steps.specs.declared.picture.At.TheVariants.{Unsaid, Line, Dot}
 use Rattle.scene_moments.specs.declared.lines.Screen.{Screen}
 
 -- the dots of a line that have gone by at a prescaler: none where it is 0 or 341
@@ -19,7 +19,6 @@ abbrev pub screen_at : At → (prescaler : ℕ) → Screen
 screen_at Unsaid p = screen_from 0 p
 screen_at (Line l) p = screen_from (l % 65_536) p
 screen_at (Dot l d) p = record { line = l % 65_536; dots = d % 65_536 }
-screen_at (Wrong n) p = screen_from 0 p
 
 -- the dots from the start of the line on which the writes end to clock c
 abbrev pub dots_to : Screen → (clock : ℕ) → ℕ

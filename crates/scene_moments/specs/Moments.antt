@@ -1,66 +1,56 @@
 -- The counter at a moment, what a handler's steps do to it, and when the interrupt comes (docs/SCENES.md). Assumes nothing.
-use Rattle.std.specs.Prelude.{◌≡◌, ℕ, ◌+◌, ◌%◌, ◌^◌, ◌≤◌, Bool, true, false, cond, not, ◌&&◌, List, [], ◌∷◌, length, drop, ◌==◌, nat_le}
+use Rattle.std.specs.Prelude.{Option, Some, None, option_map, ℕ, ◌+◌, ◌%◌, ◌^◌, max, Bool, true, false, cond, List, [], ◌∷◌, fold, nat_le}
 use Rattle.registers.specs.declared.Register.{Register}
 use Rattle.registers.specs.declared.Register.TheVariants.{Nothing, OfBank, OfAudio, OfIrq}
 use Rattle.registers.specs.declared.IrqRegister.TheVariants.{Reload, Control, Acknowledge}
 use Rattle.registers.specs.Decode.{decode}
 use Rattle.irq.specs.declared.VrcIrq.{VrcIrq}
-use Rattle.irq.specs.declared.IrqForecast.{IrqForecast}
-use Rattle.irq.specs.declared.IrqForecast.TheVariants.{None, In}
 use Rattle.irq.specs.Interrupt.{irq_zero}
 use Rattle.irq.specs.Timing.{line_step, line_length, forecast_answer}
 use Rattle.irq.specs.Writes.{irq_written_to}
 use Rattle.irq_clocks.specs.Clocks.{irq_clocked_times}
 use Rattle.scene_steps.specs.declared.step.Step.{Step}
-use Rattle.scene_steps.specs.declared.step.Step.TheVariants.{Write, Clocks, Reset, Wrong}
-use Rattle.scene_steps.specs.Steps.{step_coded}
+use Rattle.scene_steps.specs.declared.step.Step.TheVariants.{Write, Clocks, Reset}
 use Rattle.scene_moments.specs.declared.moment.Moment.{Moment}
-use Rattle.scene_moments.specs.declared.moment.Until.{Until}
+use Rattle.scene_moments.specs.declared.moment.Moment.TheVariants.{Waiting, Pending, Cleared}
 use Rattle.scene_moments.specs.declared.moment.Came.{Came}
 use Rattle.scene_moments.specs.declared.moment.Came.TheVariants.{Never, On, Held, Lost}
 
--- the clocks that a forecast means, 0 for never: one where it says 0, by irq_clocks' `ShortForecastLaw`
-abbrev pub due_from : IrqForecast → ℕ
-due_from None = 0
-due_from (In n) = cond (n == 0) 1 n
+-- the clocks that a forecast means, none for never: one where it says 0, by irq_clocks' `ShortForecastLaw`
+abbrev pub due_from : Option ℕ → Option ℕ
+due_from f = option_map (λ n. max n 1) f
 
 -- the clocks until a counter's interrupt; `ClocksDueLaw` of scene_laws says that they are the least
-abbrev pub clocks_due : VrcIrq → ℕ
+abbrev pub clocks_due : VrcIrq → Option ℕ
 clocks_due q = due_from (forecast_answer q)
 
 -- clocks are counted in 32 bits; a sheet's menu has too few steps to fill them
 abbrev pub added : (clock n : ℕ) → ℕ
 added clock n = (clock + n) % 2 ^ 32
 
--- a moment before the interrupt
-abbrev pub moment : VrcIrq → (clock : ℕ) → Moment
-moment q clock = record { irq = q; clock = clock; came = false; set = 0; lost = false }
-
--- a moment at which it is pending since clock `set`
-abbrev pub pending_at : VrcIrq → (clock set : ℕ) → Moment
-pending_at q clock set = record { irq = q; clock = clock; came = true; set = set; lost = false }
-
--- a moment at which it was cleared
-abbrev pub lost_at : Moment → Moment
-lost_at m = record { irq = m.irq; clock = m.clock; came = m.came; set = m.set; lost = true }
-
 -- the interrupt is due within n clocks
-abbrev pub due_within : (n due : ℕ) → Bool
-due_within n d = not (d == 0) && nat_le d n
+abbrev pub due_within : (n : ℕ) → (due : Option ℕ) → Bool
+due_within n None = false
+due_within n (Some d) = nat_le d n
 
--- n clocks that a handler waits: the interrupt comes in the midst of them, or they all go by
-abbrev pub waited : (n : ℕ) → Moment → Moment
-waited n m =
-    cond (due_within n (clocks_due m.irq))
-    (pending_at m.irq (added m.clock n) (added m.clock (clocks_due m.irq)))
-    (moment (irq_clocked_times line_step line_length n m.irq) (added m.clock n))
+-- n clocks go by with no interrupt
+abbrev pub gone_by : (n : ℕ) → VrcIrq → (clock : ℕ) → Moment
+gone_by n q clock = Waiting (irq_clocked_times line_step line_length n q) (added clock n)
 
--- a step: a write reaches the counter's register or leaves it alone, a reset clears it
-abbrev pub step_taken : (revision_b : Bool) → Step → Moment → Moment
-step_taken b (Write a v) m = moment (irq_written_to (decode b a) v m.irq) m.clock
-step_taken b (Clocks n) m = waited n m
-step_taken b Reset m = moment irq_zero m.clock
-step_taken b (Wrong n) m = m
+-- n clocks that a handler waits where the interrupt is due so: it comes in the midst of them, or they all go by
+abbrev pub waited_for : (due : Option ℕ) (n : ℕ) → VrcIrq → (clock : ℕ) → Moment
+waited_for None n q clock = gone_by n q clock
+waited_for (Some d) n q clock = cond (nat_le d n) (Pending (added clock d) (added clock n)) (gone_by n q clock)
+
+-- n clocks that a handler waits
+abbrev pub waited : (n : ℕ) → VrcIrq → (clock : ℕ) → Moment
+waited n q clock = waited_for (clocks_due q) n q clock
+
+-- a step before the interrupt: a write reaches the counter's register or leaves it alone, a reset clears it
+abbrev pub step_taken : (revision_b : Bool) → Step → VrcIrq → (clock : ℕ) → Moment
+step_taken b (Write a v) q clock = Waiting (irq_written_to (decode b a) v q) clock
+step_taken b (Clocks n) q clock = waited n q clock
+step_taken b Reset q clock = Waiting irq_zero clock
 
 -- the registers that clear pending (01, Interrupt 1; VRC IRQ)
 abbrev pub clears : Register → Bool
@@ -72,49 +62,48 @@ clears (OfIrq Control) = true
 clears (OfIrq Acknowledge) = true
 
 -- a step while the interrupt is pending: control, acknowledge and reset clear it, and clocks go by
-abbrev pub step_pending : (revision_b : Bool) → Step → Moment → Moment
-step_pending b (Write a v) m = cond (clears (decode b a)) (lost_at m) m
-step_pending b (Clocks n) m = record { irq = m.irq; clock = added m.clock n; came = m.came; set = m.set; lost = m.lost }
-step_pending b Reset m = lost_at m
-step_pending b (Wrong n) m = m
+abbrev pub step_pending : (revision_b : Bool) → Step → (set clock : ℕ) → Moment
+step_pending b (Write a v) set clock = cond (clears (decode b a)) (Cleared set clock) (Pending set clock)
+step_pending b (Clocks n) set clock = Pending set (added clock n)
+step_pending b Reset set clock = Cleared set clock
 
 -- a step of a handler; one that is lost stays lost
 abbrev pub stepped : (revision_b : Bool) → Step → Moment → Moment
-stepped b s m = cond m.lost m (cond m.came (step_pending b s m) (step_taken b s m))
+stepped b s (Waiting q clock) = step_taken b s q clock
+stepped b s (Pending set clock) = step_pending b s set clock
+stepped b s (Cleared set clock) = Cleared set clock
 
--- a handler's steps, given as their numbers
-abbrev pub menu_played : (revision_b : Bool) → List ℕ → Moment → Moment
-menu_played b [] m = m
-menu_played b (code ∷ codes) m = menu_played b codes (stepped b (step_coded code) m)
+-- a handler's steps
+abbrev pub menu_played : (revision_b : Bool) → List Step → Moment → Moment
+menu_played b steps m = fold (λ x s. stepped b s x) m steps
 
 -- the interrupt's clock if it is due after so many
-abbrev pub coming_in : (clock due : ℕ) → Came
-coming_in clock d = cond (d == 0) Never (On (added clock d))
+abbrev pub coming_in : (clock : ℕ) → (due : Option ℕ) → Came
+coming_in clock None = Never
+coming_in clock (Some d) = On (added clock d)
 
 -- the interrupt's clock, if nothing else happens; of one that came inside the handler, the clocks on which it was set and on which the handler
 -- ends, or cleared it
 abbrev pub ended : Moment → Came
-ended m = cond m.lost (Lost m.set m.clock) (cond m.came (Held m.set m.clock) (coming_in m.clock (clocks_due m.irq)))
+ended (Waiting q clock) = coming_in clock (clocks_due q)
+ended (Pending set clock) = Held set clock
+ended (Cleared set clock) = Lost set clock
 
 -- the interrupt's clock, if a handler of these steps runs at a moment
-abbrev pub came : (revision_b : Bool) → List ℕ → Moment → Came
-came b codes m = ended (menu_played b codes m)
+abbrev pub came : (revision_b : Bool) → List Step → Moment → Came
+came b steps m = ended (menu_played b steps m)
 
--- the step in whose clocks the interrupt comes, counted on from i; the number behind the last where it comes in none
-abbrev pub came_in : (revision_b : Bool) → List ℕ → Moment → (i : ℕ) → ℕ
-came_in b [] m i = i
-came_in b (code ∷ codes) m i =
-    cond (stepped b (step_coded code) m).came i (came_in b codes (stepped b (step_coded code) m) (i + 1))
+-- the interrupt has come
+abbrev pub has_come : Moment → Bool
+has_come (Waiting q clock) = false
+has_come (Pending set clock) = true
+has_come (Cleared set clock) = true
+
+-- the step in whose clocks the interrupt comes, counted on from i; none where it comes in none
+abbrev pub came_in : (revision_b : Bool) → List Step → Moment → (i : ℕ) → Option ℕ
+came_in b [] m i = None
+came_in b (s ∷ steps) m i = cond (has_come (stepped b s m)) (Some i) (came_in b steps (stepped b s m) (i + 1))
 
 -- the interrupt's clock, if no handler runs; one that is pending already came at clock 0
 abbrev pub came_alone : VrcIrq → Came
-came_alone q = cond q.irq_pending (On 0) (ended (moment q 0))
-
--- what `until_set` says of the steps of a handler that runs at a moment: those before the interrupt has come, and the one in which it comes
-pub record UntilOf (b : Bool) (codes : List ℕ) (m : Moment) (r : Until) : Type 0 where
-  pub within : r.steps ≤ length codes
-  -- the steps behind them lead to the same end
-  pub rest : menu_played b (drop r.steps codes) r.moment ≡ menu_played b codes m
-  -- it has come in the last of them, or in none of all
-  pub sought : r.moment.came ≡ true → r.steps ≡ came_in b codes m 0 + 1
-  pub nowhere : r.moment.came ≡ false → (r.steps ≡ length codes) × (length codes ≡ came_in b codes m 0)
+came_alone q = cond q.irq_pending (On 0) (ended (Waiting q 0))

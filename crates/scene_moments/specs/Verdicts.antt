@@ -1,56 +1,82 @@
 -- What the interrupt's clock means for the window (docs/SCENES.md). Assumes nothing.
-use Rattle.std.specs.Prelude.{ℕ, ◌-◌, Bool, cond, nat_lt}
-use Rattle.scene_moments.specs.declared.lines.Screen.{Screen}
+use Rattle.std.specs.Prelude.{Option, Some, None, ℕ, ◌-◌, Bool, cond, nat_lt}
 use Rattle.scene_moments.specs.declared.moment.Came.{Came}
-use Rattle.scene_moments.specs.declared.moment.Came.TheVariants.{Never, On, Held, Lost}
+use Rattle.scene_moments.specs.declared.moment.Came.TheVariants as came
+use Rattle.scene_moments.specs.declared.moment.Came.TheVariants.{On, Held}
+use Rattle.scene_moments.specs.declared.verdict.Mark.{Mark}
+use Rattle.scene_moments.specs.declared.verdict.Mark.TheVariants as mark
 use Rattle.scene_moments.specs.declared.verdict.Seen.{Seen}
 use Rattle.scene_moments.specs.declared.verdict.Verdict.{Verdict}
+use Rattle.scene_moments.specs.declared.verdict.Verdict.TheVariants.{Right, Early, Late, Lost, Never}
+use Rattle.scene_moments.specs.declared.verdict.Window.{Window}
 use Rattle.scene_moments.specs.Lines.{line_of}
 
--- an interrupt on a line, early (1), late (2) or right (0), and by how many lines
+-- the mark of a verdict
+abbrev pub mark_of : Verdict → Mark
+mark_of (Right line) = mark.Right
+mark_of (Early line off) = mark.Early
+mark_of (Late line off) = mark.Late
+mark_of (Lost line) = mark.Lost
+mark_of Never = mark.Never
+
+-- the line of a verdict, none for never
+abbrev pub line_told : Verdict → Option ℕ
+line_told (Right line) = Some line
+line_told (Early line off) = Some line
+line_told (Late line off) = Some line
+line_told (Lost line) = Some line
+line_told Never = None
+
+-- the marks in their order, the worse the higher
+abbrev pub rank : Mark → ℕ
+rank mark.Right = 0
+rank mark.Early = 1
+rank mark.Late = 2
+rank mark.Lost = 3
+rank mark.Never = 4
+
+-- an interrupt on a line, early, late or right, and by how many lines
 abbrev pub on_line : (line window : ℕ) → Verdict
 on_line line window =
-    cond (nat_lt line window) (record { line = line; off = window - line; mark = 1 })
-    (cond (nat_lt window line) (record { line = line; off = line - window; mark = 2 })
-    (record { line = line; off = 0; mark = 0 }))
+    cond (nat_lt line window) (Early line (window - line)) (cond (nat_lt window line) (Late line (line - window)) (Right line))
 
--- one that the handler cleared, on the line on which it was set: lost (3), or what it is if the handler leaves interrupts open
+-- one that the handler cleared, on the line on which it was set: lost, or what it is if the handler leaves interrupts open
 abbrev pub lost_on : (unmasked : Bool) → (line window : ℕ) → Verdict
-lost_on unmasked line window = cond unmasked (on_line line window) (record { line = line; off = 0; mark = 3 })
+lost_on unmasked line window = cond unmasked (on_line line window) (Lost line)
 
 -- the clock on which the console takes an interrupt that is pending at the handler's end: as it is set, or with interrupts masked as the
 -- handler ends
 abbrev pub taken_on : (unmasked : Bool) → (set end : ℕ) → ℕ
 taken_on unmasked set end = cond unmasked set end
 
--- an interrupt by its clock, from where the writes end; 4 where it never comes
-abbrev pub verdict_of : (unmasked : Bool) → Came → Screen → (window : ℕ) → Verdict
-verdict_of unmasked Never s window = record { line = 0; off = 0; mark = 4 }
-verdict_of unmasked (On clock) s window = on_line (line_of s clock) window
-verdict_of unmasked (Held set end) s window = on_line (line_of s (taken_on unmasked set end)) window
-verdict_of unmasked (Lost set cleared) s window = lost_on unmasked (line_of s set) window
+-- an interrupt by its clock
+abbrev pub verdict_of : Window → Came → Verdict
+verdict_of w came.Never = Never
+verdict_of w (On clock) = on_line (line_of w.screen clock) w.line
+verdict_of w (Held set end) = on_line (line_of w.screen (taken_on w.unmasked set end)) w.line
+verdict_of w (came.Lost set cleared) = lost_on w.unmasked (line_of w.screen set) w.line
 
--- the clock on which an interrupt is set, 0 for never
-abbrev pub set_of : Came → ℕ
-set_of Never = 0
-set_of (On clock) = clock
-set_of (Held set end) = set
-set_of (Lost set cleared) = set
+-- the clock on which an interrupt is set, none for never
+abbrev pub set_of : Came → Option ℕ
+set_of came.Never = None
+set_of (On clock) = Some clock
+set_of (Held set end) = Some set
+set_of (came.Lost set cleared) = Some set
 
--- the clock on which the handler clears it, 0 if it does not
-abbrev pub cleared_of : Came → ℕ
-cleared_of Never = 0
-cleared_of (On clock) = 0
-cleared_of (Held set end) = 0
-cleared_of (Lost set cleared) = cleared
+-- the clock on which the handler clears it, none if it does not
+abbrev pub cleared_of : Came → Option ℕ
+cleared_of came.Never = None
+cleared_of (On clock) = None
+cleared_of (Held set end) = None
+cleared_of (came.Lost set cleared) = Some cleared
 
--- the clock that counts: on which the console takes it, or of one that is lost on which it is set; 0 for never
-abbrev pub counted_of : (unmasked : Bool) → Came → ℕ
-counted_of unmasked Never = 0
-counted_of unmasked (On clock) = clock
-counted_of unmasked (Held set end) = taken_on unmasked set end
-counted_of unmasked (Lost set cleared) = set
+-- the clock that counts: on which the console takes it, or of one that is lost on which it is set; none for never
+abbrev pub counted_of : (unmasked : Bool) → Came → Option ℕ
+counted_of unmasked came.Never = None
+counted_of unmasked (On clock) = Some clock
+counted_of unmasked (Held set end) = Some (taken_on unmasked set end)
+counted_of unmasked (came.Lost set cleared) = Some set
 
 -- what is seen of a moment
-abbrev pub seen_as : (unmasked : Bool) → Came → Screen → (window : ℕ) → Seen
-seen_as unmasked a s window = record { verdict = verdict_of unmasked a s window; set = counted_of unmasked a; cleared = cleared_of a }
+abbrev pub seen_as : Window → Came → Seen
+seen_as w a = record { verdict = verdict_of w a; set = counted_of w.unmasked a; cleared = cleared_of a }

@@ -5,5 +5,6 @@ pub mod lines;
 pub mod moment;
 pub mod verdict;
 
+pub use lines::Screen;
 pub use moment::{Came, Moment};
-pub use verdict::Verdict;
+pub use verdict::{Mark, Seen, Verdict, Window};

@@ -6,7 +6,7 @@ use irq::{LINE, STEP};
 use scene_steps::picture::At;
 
 // Where the writes end: the line, and the dots of it that have gone by.
-#[derive(Clone, Copy)]
+#[derive(Clone, Copy, PartialEq, Eq)]
 pub struct Screen {
     pub line: u16,
     pub dots: u16,
@@ -17,66 +17,68 @@ fn dots_gone(prescaler: u16) -> u16
     ensures { result ≡ dots_gone prescaler }
 {
     if prescaler == 0 {
-        return 0;
-    }
-    if LINE < prescaler {
-        return 0;
-    }
-    LINE - prescaler
-}
-
-// Where no dot is given, the prescaler at the end of the writes says how much of the line has gone.
-fn screen_from(line: u16, prescaler: u16) -> Screen
-    ensures { result ≡ screen_from line prescaler }
-{
-    Screen {
-        line,
-        dots: dots_gone(prescaler),
+        0
+    } else {
+        LINE.saturating_sub(prescaler)
     }
 }
 
-// Where the writes end by the cell `at`. Without it lines count from 0.
-pub fn screen_at(at: At, prescaler: u16) -> Screen
-    ensures { result ≡ screen_at at prescaler }
-{
-    match at {
-        At::Unsaid => screen_from(0, prescaler),
-        At::Line(line) => screen_from((line % 65536) as u16, prescaler),
-        At::Dot(line, dot) => Screen {
-            line: (line % 65536) as u16,
-            dots: (dot % 65536) as u16,
-        },
-        At::Wrong(number) => screen_from(0, prescaler),
+impl Screen {
+    // Where no dot is given, the prescaler at the end of the writes says how much of the line has gone.
+    fn from_prescaler(line: u16, prescaler: u16) -> Screen
+        ensures { result ≡ screen_from line prescaler }
+    {
+        Screen {
+            line,
+            dots: dots_gone(prescaler),
+        }
     }
-}
 
-// The line of a clock, counted from the end of the writes. Lines go by whether the counter is armed or not.
-pub fn line_of(screen: Screen, clock: u32) -> u32
-    ensures { result ≡ line_of screen clock }
-{
-    let fallen = (STEP as u64) * (clock as u64) + (screen.dots as u64);
-    let lines = (fallen / (LINE as u64)) as u32;
-    screen.line as u32 + lines
-}
+    // Where the writes end by the cell `at`. Without it lines count from 0.
+    pub fn at(at: At, prescaler: u16) -> Screen
+        ensures { result ≡ screen_at at prescaler }
+    {
+        match at {
+            At::Unsaid => Screen::from_prescaler(0, prescaler),
+            At::Line(line) => Screen::from_prescaler((line % 65536) as u16, prescaler),
+            At::Dot(line, dot) => Screen {
+                line: (line % 65536) as u16,
+                dots: (dot % 65536) as u16,
+            },
+        }
+    }
 
-// The dot of its line that a clock ends on.
-fn dot_at(screen: Screen, clock: u32) -> u32
-    ensures { (result ≡ dot_at screen clock) × (result < 341) }
-{
-    let fallen = (STEP as u64) * (clock as u64) + (screen.dots as u64);
-    (fallen % (LINE as u64)) as u32
-}
+    // The line of a clock, counted from the end of the writes. Lines go by whether the counter is armed or not.
+    #[tactic(auto, unfolding(crate::specs::Lines::line_of))]
+    pub fn line_of(self, clock: u32) -> u32
+        ensures { result ≡ line_of self clock }
+    {
+        let fallen = u64::from(STEP) * u64::from(clock) + u64::from(self.dots);
+        let lines = (fallen / u64::from(LINE)) as u32;
+        u32::from(self.line) + lines
+    }
 
-// The fewest clocks by which an interrupt would have to come earlier to be on another line.
-pub fn early_margin(screen: Screen, clock: u32) -> u32
-    ensures { result ≡ early_margin screen clock }
-{
-    dot_at(screen, clock) / (STEP as u32) + 1
-}
+    // The dot of its line that a clock ends on.
+    fn dot_at(self, clock: u32) -> u32
+        ensures { (result ≡ dot_at self clock) × (result < 341) }
+    {
+        let fallen = u64::from(STEP) * u64::from(clock) + u64::from(self.dots);
+        (fallen % u64::from(LINE)) as u32
+    }
 
-// The fewest by which it would have to come later.
-pub fn late_margin(screen: Screen, clock: u32) -> u32
-    ensures { result ≡ late_margin screen clock }
-{
-    (LINE as u32 - dot_at(screen, clock) + 2) / (STEP as u32)
+    // The fewest clocks by which an interrupt would have to come earlier to be on another line.
+    #[tactic(auto, unfolding(crate::specs::Lines::early_margin))]
+    pub fn early_margin(self, clock: u32) -> u32
+        ensures { result ≡ early_margin self clock }
+    {
+        self.dot_at(clock) / u32::from(STEP) + 1
+    }
+
+    // The fewest by which it would have to come later.
+    #[tactic(auto, unfolding(crate::specs::Lines::late_margin))]
+    pub fn late_margin(self, clock: u32) -> u32
+        ensures { result ≡ late_margin self clock }
+    {
+        (u32::from(LINE) - self.dot_at(clock) + 2) / u32::from(STEP)
+    }
 }

@@ -1,149 +1,133 @@
 // What the interrupt's clock means for the window.
 ghost use Rattle.std.specs.Prelude.{◌≡◌};
-ghost use Rattle.scene_moments.specs.Verdicts.{cleared_of, counted_of, lost_on, on_line, seen_as, set_of, taken_on, verdict_of};
+ghost use Rattle.scene_moments.specs.Verdicts.{counted_of, line_told, lost_on, mark_of, on_line, seen_as, taken_on, verdict_of};
 
-use crate::lines::{Screen, line_of};
+use crate::lines::Screen;
 use crate::moment::Came;
+use std::cmp::Ordering;
 
-// The marks, the worse the higher.
-pub const RIGHT: u8 = 0;
-
-pub const EARLY: u8 = 1;
-
-pub const LATE: u8 = 2;
-
-pub const LOST: u8 = 3;
-
-pub const NEVER: u8 = 4;
-
-// The interrupt's line, how many lines it is off, and its mark. One that is lost is not off; of one that never comes both numbers
-// are 0.
-#[derive(Clone, Copy)]
-pub struct Verdict {
-    pub line: u32,
-    pub off: u32,
-    pub mark: u8,
+// How a moment is marked, the worse the greater.
+#[derive(Clone, Copy, PartialEq, Eq, PartialOrd, Ord)]
+pub enum Mark {
+    Right,
+    Early,
+    Late,
+    Lost,
+    Never,
 }
 
-// What is seen of a moment: its verdict, the clock that counts of its interrupt, and the one on which it is cleared, 0 where there is
-// none.
-#[derive(Clone, Copy)]
+// The interrupt's line, and by how many lines it is early or late.
+#[derive(Clone, Copy, PartialEq, Eq)]
+pub enum Verdict {
+    Right(u32),
+    Early(u32, u32),
+    Late(u32, u32),
+    Lost(u32),
+    Never,
+}
+
+impl Verdict {
+    pub fn mark(self) -> Mark
+        ensures { result ≡ mark_of self }
+    {
+        match self {
+            Verdict::Right(_) => Mark::Right,
+            Verdict::Early(..) => Mark::Early,
+            Verdict::Late(..) => Mark::Late,
+            Verdict::Lost(_) => Mark::Lost,
+            Verdict::Never => Mark::Never,
+        }
+    }
+
+    // The interrupt's line, if it comes.
+    pub fn line(self) -> Option<u32>
+        ensures { result ≡ line_told self }
+    {
+        match self {
+            Verdict::Right(line) | Verdict::Lost(line) => Some(line),
+            Verdict::Early(line, _) | Verdict::Late(line, _) => Some(line),
+            Verdict::Never => None,
+        }
+    }
+}
+
+// What is seen of a moment: its verdict, and the clocks that counts of its interrupt and on which it is cleared, if there are such.
+#[derive(Clone, Copy, PartialEq, Eq)]
 pub struct Seen {
     pub verdict: Verdict,
-    pub set: u32,
-    pub cleared: u32,
+    pub set: Option<u32>,
+    pub cleared: Option<u32>,
 }
 
-fn on_line(line: u32, window: u32) -> Verdict
-    ensures { result ≡ on_line line window }
-{
-    if line < window {
-        return Verdict {
-            line,
-            off: window - line,
-            mark: EARLY,
-        };
-    }
-    if window < line {
-        return Verdict {
-            line,
-            off: line - window,
-            mark: LATE,
-        };
-    }
-    Verdict {
-        line,
-        off: 0,
-        mark: RIGHT,
-    }
+// Where the writes end, the line on which the interrupt must come, and whether the handler leaves interrupts open.
+#[derive(Clone, Copy, PartialEq, Eq)]
+pub struct Window {
+    pub screen: Screen,
+    pub line: u32,
+    pub unmasked: bool,
 }
 
-// An interrupt that the handler cleared. A handler that leaves interrupts open had taken it by then.
-fn lost_on(unmasked: bool, line: u32, window: u32) -> Verdict
-    ensures { result ≡ lost_on unmasked line window }
-{
-    if unmasked {
-        return on_line(line, window);
+impl Window {
+    fn on_line(self, line: u32) -> Verdict
+        ensures { result ≡ on_line line self.line }
+    {
+        match line.cmp(&self.line) {
+            Ordering::Less => Verdict::Early(line, self.line - line),
+            Ordering::Greater => Verdict::Late(line, line - self.line),
+            Ordering::Equal => Verdict::Right(line),
+        }
     }
-    Verdict {
-        line,
-        off: 0,
-        mark: LOST,
-    }
-}
 
-// The clock on which the console takes an interrupt that is pending at the handler's end.
-fn taken_on(unmasked: bool, set: u32, end: u32) -> u32
-    ensures { result ≡ taken_on unmasked set end }
-{
-    if unmasked {
-        return set;
+    // An interrupt that the handler cleared. A handler that leaves interrupts open had taken it by then.
+    fn lost_on(self, line: u32) -> Verdict
+        ensures { result ≡ lost_on self.unmasked line self.line }
+    {
+        if self.unmasked {
+            self.on_line(line)
+        } else {
+            Verdict::Lost(line)
+        }
     }
-    end
-}
 
-// An interrupt, with where the writes end and the line on which it must come.
-pub fn verdict_of(unmasked: bool, came: Came, screen: Screen, window: u32) -> Verdict
-    ensures { result ≡ verdict_of unmasked came screen window }
-{
-    match came {
-        Came::Never => Verdict {
-            line: 0,
-            off: 0,
-            mark: NEVER,
-        },
-        Came::On(clock) => on_line(line_of(screen, clock), window),
-        Came::Held(set, end) => { on_line(line_of(screen, taken_on(unmasked, set, end)), window) }
-        Came::Lost(set, cleared) => lost_on(unmasked, line_of(screen, set), window),
+    // The clock on which the console takes an interrupt that is pending at the handler's end.
+    fn taken_on(self, set: u32, end: u32) -> u32
+        ensures { result ≡ taken_on self.unmasked set end }
+    {
+        if self.unmasked { set } else { end }
     }
-}
 
-// The clock on which the interrupt is set, 0 if it never is.
-pub fn set_of(came: Came) -> u32
-    ensures { result ≡ set_of came }
-{
-    match came {
-        Came::Never => 0,
-        Came::On(clock) => clock,
-        Came::Held(set, end) => set,
-        Came::Lost(set, cleared) => set,
+    // What an interrupt means.
+    pub fn verdict_of(self, came: Came) -> Verdict
+        ensures { result ≡ verdict_of self came }
+    {
+        match came {
+            Came::Never => Verdict::Never,
+            Came::On(clock) => self.on_line(self.screen.line_of(clock)),
+            Came::Held(set, end) => self.on_line(self.screen.line_of(self.taken_on(set, end))),
+            Came::Lost(set, _) => self.lost_on(self.screen.line_of(set)),
+        }
     }
-}
 
-// The clock on which the handler clears it, 0 if it does not.
-pub fn cleared_of(came: Came) -> u32
-    ensures { result ≡ cleared_of came }
-{
-    match came {
-        Came::Never => 0,
-        Came::On(clock) => 0,
-        Came::Held(set, end) => 0,
-        Came::Lost(set, cleared) => cleared,
+    // The clock that counts: on which the console takes the interrupt, or of one that is lost on which it is set.
+    pub fn counted_of(self, came: Came) -> Option<u32>
+        ensures { result ≡ counted_of self.unmasked came }
+    {
+        match came {
+            Came::Never => None,
+            Came::On(clock) => Some(clock),
+            Came::Held(set, end) => Some(self.taken_on(set, end)),
+            Came::Lost(set, _) => Some(set),
+        }
     }
-}
 
-// The clock that counts: on which the console takes the interrupt, or of one that is lost on which it is set.
-pub fn counted_of(unmasked: bool, came: Came) -> u32
-    ensures { result ≡ counted_of unmasked came }
-{
-    match came {
-        Came::Never => 0,
-        Came::On(taken) => taken,
-        Came::Held(set, end) => taken_on(unmasked, set, end),
-        Came::Lost(first, cleared) => first,
-    }
-}
-
-// What is seen of a moment.
-pub fn seen_as(unmasked: bool, came: Came, screen: Screen, window: u32) -> Seen
-    ensures { result ≡ seen_as unmasked came screen window }
-{
-    let verdict = verdict_of(unmasked, came, screen, window);
-    let set = counted_of(unmasked, came);
-    let cleared = cleared_of(came);
-    Seen {
-        verdict,
-        set,
-        cleared,
+    // What is seen of a moment.
+    pub fn seen_as(self, came: Came) -> Seen
+        ensures { result ≡ seen_as self came }
+    {
+        Seen {
+            verdict: self.verdict_of(came),
+            set: self.counted_of(came),
+            cleared: came.cleared(),
+        }
     }
 }

@@ -2,11 +2,11 @@
 use mathlib.Core.Path.{◌≡◌, refl, sym, ap, ◌∙◌}
 use mathlib.Core.Bool.{Bool, true, false, cond, ◌||◌}
 use mathlib.Core.List.{List, [], ◌∷◌, ◌++◌}
-use Prim.Native.Nat.{ℕ, suc, ◌-◌, ◌≤◌, ◌<◌}
+use Prim.Native.Nat.{ℕ, suc, ◌-◌, ◌<◌}
 use native.Mathlib.Omega.{arith}
 use lib.ListN.{length, take, get_or}
 use lib.Seq.{take-suc, take-length}
-use Rattle.scene_paths.specs.Names.{EndOf, takes_any, up_to}
+use Rattle.scene_paths.specs.Names.{takes_any, up_to}
 
 module _ (test : ℕ → Bool) (x : ℕ) where
   module _ (e : test x ≡ true) where
@@ -37,40 +37,18 @@ module _ (test : ℕ → Bool) (x : ℕ) where
         ap (λ (t : Bool). cond t (b ∷ up_to test (bs ++ (x ∷ []))) []) (has_none (b ∷ bs))
         ∙ ap (λ (l : List ℕ). cond (takes_any test (b ∷ bs)) (b ∷ l) []) (passed bs)
 
--- from n on the test takes no byte
-pub record Left (test : ℕ → Bool) (text : List ℕ) (n : ℕ) : Type 0 where
-  pub within : n ≤ length text
-  pub same : up_to test (take n text) ≡ up_to test text
+-- ---- the same of a text that is not empty, by its last byte
+module _ (test : ℕ → Bool) (text : List ℕ) (some : 0 < length text) where
+  abbrev last : ℕ
+  last = get_or text (length text - 1) 0
 
-pub all : (test : ℕ → Bool) (text : List ℕ) → Left test text (length text)
-all test text = record { within = omega arith; same = ap (up_to test) (take-length text) }
+  split : text ≡ take (length text - 1) text ++ (last ∷ [])
+  split =
+      let s : length text ≡ suc (length text - 1) = omega arith in
+      sym (take-length text) ∙ ap (λ (n : ℕ). take n text) s ∙ take-suc text (length text - 1) 0 (omega arith)
 
-module _ (test : ℕ → Bool) (text : List ℕ) (n : ℕ) (l : Left test text n) where
-  pub none : n ≤ 0 → EndOf test text n
-  none h =
-      let z : n ≡ 0 = omega arith in
-      record {
-        within = l.within;
-        bytes = ap (λ (k : ℕ). take k text) z ∙ sym (ap (λ (k : ℕ). up_to test (take k text)) z) ∙ l.same;
-      }
+  pub kept : test last ≡ true → up_to test text ≡ text
+  kept e = ap (up_to test) split ∙ taken test last e (take (length text - 1) text) ∙ sym split
 
-  module _ (h : 0 < n) where
-    split : take n text ≡ take (n - 1) text ++ (get_or text (n - 1) 0 ∷ [])
-    split =
-        let s : n ≡ suc (n - 1) = omega arith in
-        let k : n - 1 < length text = omega (arith, l.within) in
-        ap (λ (m : ℕ). take m text) s ∙ take-suc text (n - 1) 0 k
-
-    pub stops : test (get_or text (n - 1) 0) ≡ true → EndOf test text n
-    stops e =
-        record {
-          within = l.within;
-          bytes = split ∙ sym (taken test (get_or text (n - 1) 0) e (take (n - 1) text)) ∙ sym (ap (up_to test) split) ∙ l.same;
-        }
-
-    pub goes_on : test (get_or text (n - 1) 0) ≡ false → Left test text (n - 1)
-    goes_on e =
-        record {
-          within = omega (arith, l.within);
-          same = sym (passed test (get_or text (n - 1) 0) e (take (n - 1) text)) ∙ sym (ap (up_to test) split) ∙ l.same;
-        }
+  pub left_out : test last ≡ false → up_to test text ≡ up_to test (take (length text - 1) text)
+  left_out e = ap (up_to test) split ∙ passed test last e (take (length text - 1) text)

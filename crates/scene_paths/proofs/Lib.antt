@@ -1,4 +1,3 @@
-pub mod Copies
 pub mod Ends
-pub mod Places
+pub mod Folders
 pub mod Shown

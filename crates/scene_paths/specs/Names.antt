@@ -1,5 +1,5 @@
 -- The bytes of a cell that make a name, and a text's end by its last byte of a kind (docs/SCENES.md). Assumes nothing.
-use Rattle.std.specs.Prelude.{◌≡◌, Bool, false, cond, not, ◌||◌, List, [], ◌∷◌, ℕ, ◌≤◌, eqb, length, take}
+use Rattle.std.specs.Prelude.{Bool, false, cond, not, ◌||◌, List, [], ◌∷◌, ℕ, eqb}
 use Rattle.text_words.specs.Words.{from_word, is_blank}
 
 -- a test takes one of the bytes
@@ -23,8 +23,3 @@ is_ink b = not (is_blank b)
 -- a text without the blanks at its ends
 abbrev pub trimmed : List ℕ → List ℕ
 trimmed text = up_to is_ink (from_word text)
-
--- the place behind the last byte that a test takes, 0 where there is none
-pub record EndOf (test : ℕ → Bool) (text : List ℕ) (at : ℕ) : Type 0 where
-  pub within : at ≤ length text
-  pub bytes : take at text ≡ up_to test text

@@ -1,5 +1,5 @@
 -- The path of a file that a cell names (docs/SCENES.md). Assumes nothing.
-use Rattle.std.specs.Prelude.{◌≡◌, Bool, false, cond, not, ◌&&◌, List, [], ◌∷◌, ◌++◌, ℕ, ◌≤◌, ◌<◌, eqb, length, take}
+use Rattle.std.specs.Prelude.{Bool, false, cond, not, ◌&&◌, List, [], ◌∷◌, ◌++◌, ℕ, eqb}
 use Rattle.scene_paths.specs.Names.{is_slash, trimmed, up_to}
 
 -- a byte; nothing for a quote behind the first of two (RFC 4180)
@@ -35,17 +35,3 @@ folder_of sheet name = cond (is_rooted name) [] (up_to is_slash sheet)
 -- a name's path
 abbrev pub path_of : (sheet name : List ℕ) → List ℕ
 path_of sheet name = folder_of sheet name ++ name
-
--- how many bytes of the sheet's path stand before a name
-pub record FolderOf (sheet name : List ℕ) (n : ℕ) : Type 0 where
-  pub within : n ≤ length sheet
-  pub bytes : take n sheet ≡ folder_of sheet name
-
--- the first n bytes of a buffer are a text; or n is more than the buffer's bytes, and so are the text's
-pub record Holds (buffer : List ℕ) (n : ℕ) (text : List ℕ) : Type 0 where
-  pub whole : n ≤ length buffer → take n buffer ≡ text
-  pub long : length buffer < n → length buffer < length text
-
--- bytes were put behind what the buffer held
-abbrev pub Appended : (before : List ℕ) (n : ℕ) (bytes after : List ℕ) (m : ℕ) → Type 0
-Appended before n bytes after m = (text : List ℕ) → Holds before n text → Holds after m (text ++ bytes)

@@ -1,113 +1,85 @@
 // The path of a file that a cell names.
 #![tactic(auto)]
 
-ghost use Rattle.std.specs.Prelude.{◌≡◌};
-ghost use Rattle.text_words.specs.Places.{WordAt};
-ghost use Rattle.scene_paths.specs.Names.{EndOf, is_ink, is_slash, trimmed};
-ghost use Rattle.scene_paths.specs.Paths.{Appended, FolderOf, Holds, is_rooted, kept, name_of, path_of, unquoted};
+ghost use Rattle.std.specs.Prelude.{◌≡◌, ◌<◌, ◌++◌, ℕ, Bool, length, IfNone, MatchOption, OnSome};
+ghost use Rattle.scene_paths.specs.Names.{is_ink, is_slash, trimmed, up_to};
+ghost use Rattle.scene_paths.specs.Paths.{folder_of, is_rooted, name_of, path_of, unquoted};
 
-use text_words::{Word, is_blank, place_of};
+use arrayvec::ArrayVec;
+use text_words::{from_first, is_blank};
 
-// Behind the last slash.
-fn slash_end(path: &[u8]) -> usize
-    ensures { EndOf is_slash path.now result }
+// A text up to its last byte that a test takes, with it.
+#[tactic(auto, using(crate::proofs::Ends::kept, crate::proofs::Ends::left_out))]
+fn up_to<F: Fn(u8) -> bool>(text: &[u8], takes: F) -> &[u8]
+    ghost test: { ℕ → Bool }
+    requires callable { F.IsAlwaysCallable takes }
+    requires tests { (b : ℕ) (r : Bool) → F.post takes b r → r ≡ test b }
+    ensures { result.now ≡ up_to test text.now }
 {
-    let mut n = path.len();
-    while n > 0 {
-        if path[n - 1] == b'/' {
-            return n;
+    let mut text = text;
+    while let [front @ .., last] = text {
+        if takes(*last) {
+            return text;
         }
-        n -= 1;
+        text = front;
     }
-    n
-}
-
-// Behind the last byte that is no blank.
-fn ink_end(text: &[u8]) -> usize
-    ensures { EndOf is_ink text.now result }
-{
-    let mut n = text.len();
-    while n > 0 {
-        if is_blank(text[n - 1]) {
-            n -= 1;
-        } else {
-            return n;
-        }
-    }
-    n
+    text
 }
 
 // A cell's bytes without the blanks at its ends.
-pub fn name_in(cell: &[u8]) -> Word
-    ensures { WordAt cell.now (trimmed cell.now) result.from result.to }
+pub fn name_in(cell: &[u8]) -> &[u8]
+    ensures { result.now ≡ trimmed cell.now }
 {
-    let from = place_of(cell, 0, false);
-    let size = ink_end(&cell[from..]);
-    Word {
-        from,
-        to: from + size,
-    }
+    up_to(from_first(cell, false), |byte| !is_blank(byte))
 }
 
 // Whether a name begins with a slash.
 fn is_rooted(name: &[u8]) -> bool
     ensures { result ≡ is_rooted name.now }
 {
-    if name.len() == 0 {
-        return false;
+    match name {
+        [first, ..] => *first == b'/',
+        [] => false,
     }
-    name[0] == b'/'
 }
 
-// How many bytes of the sheet's path stand before a name.
-fn folder_end(sheet: &[u8], name: &[u8]) -> usize
-    ensures { FolderOf sheet.now name.now result }
+// What stands before a name in its path: the folder of the sheet, or nothing.
+fn folder_of<'a>(sheet: &'a [u8], name: &[u8]) -> &'a [u8]
+    ensures { result.now ≡ folder_of sheet.now name.now }
 {
     if is_rooted(name) {
-        return 0;
+        return &sheet[..0];
     }
-    slash_end(sheet)
+    up_to(sheet, |byte| byte == b'/')
 }
 
-// Puts a byte behind the first `len`, where there is room; nothing for the second of two quotes, the first of which is `half`.
-fn keep(path: &mut [u8], len: usize, byte: u8, half: bool) -> usize
-    ensures { Appended path.old len (kept half byte) path.new result }
+// Puts a cell's bytes behind a path, as long as there is room. In a quoted cell two quotes stand for one.
+fn put_name<const N: usize>(path: &mut ArrayVec<u8, N>, bytes: &[u8], quoted: bool) -> Option<()>
+    ensures all { OnSome result (path.new.items ≡ path.old.items ++ unquoted quoted bytes.now) }
+    ensures full { IfNone result (N < length (path.old.items ++ unquoted quoted bytes.now)) }
 {
-    if half & (byte == b'"') {
-        return len;
-    }
-    if len < path.len() {
-        path[len] = byte;
-        return len + 1;
-    }
-    path.len() + 1
-}
-
-// Puts bytes behind the first `len`. In a quoted cell two quotes stand for one.
-fn copy(path: &mut [u8], len: usize, bytes: &[u8], quoted: bool) -> usize
-    ensures { Appended path.old len (unquoted quoted bytes.now) path.new result }
-{
-    let mut n = len;
+    // Whether a quote was the first of two.
     let mut half = false;
-    let mut i: usize = 0;
-    while i < bytes.len() {
-        let byte = bytes[i];
-        n = keep(path, n, byte, half);
-        half = quoted & (byte == b'"') & !half;
-        i += 1;
+    for byte in bytes {
+        let quote = *byte == b'"';
+        if half & quote {
+            half = false;
+        } else {
+            path.try_push(*byte).ok()?;
+            half = quoted & quote;
+        }
     }
-    n
+    Some(())
 }
 
-// The path of the file that a cell names, from the folder of the sheet, into a buffer. Hands back its length, or more than the
-// buffer's where it is longer than that.
-pub fn path_of(sheet: &[u8], cell: &[u8], quoted: bool, path: &mut [u8]) -> usize
-    ensures { Holds path.new result (path_of sheet.now (name_of quoted cell.now)) }
+// The path of the file that a cell names, from the folder of the sheet; none where it has more than N bytes.
+#[tactic(auto, using(crate::proofs::Folders::same_folder))]
+pub fn path_of<const N: usize>(sheet: &[u8], cell: &[u8], quoted: bool) -> Option<ArrayVec<u8, N>>
+    ensures { let path = path_of sheet.now (name_of quoted cell.now) in MatchOption result (N < length path) (λ p. p.items ≡ path) }
 {
     let name = name_in(cell);
-    let from = name.from;
-    let to = name.to;
-    let folder = folder_end(sheet, &cell[from..to]);
-    let n = copy(path, 0, &sheet[0..folder], false);
-    copy(path, n, &cell[from..to], quoted)
+    let mut path = ArrayVec::new();
+    path.try_extend_from_slice(folder_of(sheet, name)).ok()?;
+    put_name(&mut path, name, quoted)?;
+    Some(path)
 }

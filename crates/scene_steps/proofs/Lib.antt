@@ -1,7 +1,5 @@
 pub mod Codes
 pub mod Pictured
-pub mod Prefixes
 pub mod Ranges
 pub mod Rows
-pub mod Said
 pub mod Walked

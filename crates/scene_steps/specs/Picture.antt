@@ -1,39 +1,37 @@
 -- Where in the picture the writes end, as the cell `at` says it (docs/SCENES.md). Assumes nothing.
-use Rattle.std.specs.Prelude.{cond, List, ℕ, eqb, length}
-use Rattle.text_words.specs.declared.number.Number.{Number}
-use Rattle.text_words.specs.declared.number.Number.TheVariants.{Value, NoNumber, TooLarge}
+use Rattle.std.specs.Prelude.{Result, Ok, Err, cond, List, ℕ, eqb, length}
+use Rattle.text_words.specs.declared.number.NumberError.{NumberError}
 use Rattle.text_words.specs.Numbers.{number_of}
 use Rattle.text_words.specs.Words.{from_word, is_empty, past_word, word_of}
 use Rattle.scene_cells.specs.Marks.{from_mark, before_mark, behind_mark}
 use Rattle.scene_steps.specs.declared.picture.At.{At}
-use Rattle.scene_steps.specs.declared.picture.At.TheVariants.{Unsaid, Line, Dot, Wrong}
+use Rattle.scene_steps.specs.declared.picture.At.TheVariants.{Unsaid, Line, Dot}
+use Rattle.scene_steps.specs.declared.picture.AtError.{AtError}
+use Rattle.scene_steps.specs.declared.picture.AtError.TheVariants.{NoLine, NoDot, ManyWords}
 
 -- a line alone (docs/SCENES.md)
-abbrev pub at_line : Number → At
-at_line (Value line) = Line line
-at_line NoNumber = Wrong 1
-at_line TooLarge = Wrong 1
+abbrev pub at_line : Result ℕ NumberError → Result At AtError
+at_line (Ok line) = Ok (Line line)
+at_line (Err e) = Err NoLine
 
 -- the number behind `:`, with the line before it (docs/SCENES.md)
-abbrev pub dot_from : (line : ℕ) → Number → At
-dot_from line (Value dot) = Dot line dot
-dot_from line NoNumber = Wrong 2
-dot_from line TooLarge = Wrong 2
+abbrev pub dot_from : (line : ℕ) → Result ℕ NumberError → Result At AtError
+dot_from line (Ok dot) = Ok (Dot line dot)
+dot_from line (Err e) = Err NoDot
 
 -- the two numbers around `:` (docs/SCENES.md)
-abbrev pub line_and_dot : (line dot : Number) → At
-line_and_dot (Value line) dot = dot_from line dot
-line_and_dot NoNumber dot = Wrong 1
-line_and_dot TooLarge dot = Wrong 1
+abbrev pub line_and_dot : (line dot : Result ℕ NumberError) → Result At AtError
+line_and_dot (Ok line) dot = dot_from line dot
+line_and_dot (Err e) dot = Err NoLine
 
 -- what a word says: a line of 0 to 261, or a line and a dot of 0 to 340 behind `:`, decimal; or what is wrong with it (docs/SCENES.md)
-unfoldable pub at_of : List ℕ → At
+unfoldable pub at_of : List ℕ → Result At AtError
 at_of w =
     cond (eqb (length (from_mark 58 w)) 0) (at_line (number_of 10 261 w))
     (line_and_dot (number_of 10 261 (before_mark 58 w)) (number_of 10 340 (behind_mark 58 w)))
 
--- what a cell says: nothing where it is blank, otherwise what its only word does; 3 where it has several (docs/SCENES.md)
-abbrev pub at_in : List ℕ → At
+-- what a cell says: nothing where it is blank, otherwise what its only word does (docs/SCENES.md)
+abbrev pub at_in : List ℕ → Result At AtError
 at_in cell =
-    cond (is_empty cell) Unsaid
-    (cond (is_empty (past_word (from_word cell))) (at_of (word_of (from_word cell))) (Wrong 3))
+    cond (is_empty cell) (Ok Unsaid)
+    (cond (is_empty (past_word (from_word cell))) (at_of (word_of (from_word cell))) (Err ManyWords))

@@ -1,21 +1,15 @@
 -- The span of the numbers of clocks, one clock after the other. Assumes nothing.
-use Rattle.std.proofs.Common.{◌≡◌, ℕ, ◌+◌, ◌<◌, ◌≤◌, ltb, leb, refl, subst, arith, ltb-false, ltb-true, leb-false, leb-true}
+use Rattle.std.proofs.Common.{◌≡◌, ℕ, ◌+◌, ◌<◌, ◌≤◌, min, max, Option, Some, None, leb, subst, arith, leb-false, leb-true}
 use Rattle.base_shared.proofs.Tests.{tested}
 use Rattle.scene_sweep.specs.declared.spans.Span.{Span}
-use Rattle.scene_sweep.specs.Spans.{Reached, SpanOf, span_of, span_with}
+use Rattle.scene_sweep.specs.Spans.{Reached, SpanOf, spanned}
 
-module _ (f : ℕ → ℕ) (from : ℕ) where
-  -- one clock
-  pub one_spanned : SpanOf f from (from + 1) (span_of (f from))
-  one_spanned =
-      record {
-        low = λ j a b. let same : from ≡ j = omega arith in subst (λ (n : ℕ). f from ≤ f n) same (omega arith);
-        high = λ j a b. let same : from ≡ j = omega arith in subst (λ (n : ℕ). f n ≤ f from) same (omega arith);
-        least = record { clock = from; behind = omega arith; before = omega arith; is = refl };
-        most = record { clock = from; behind = omega arith; before = omega arith; is = refl };
-      }
+module _ (f : ℕ → Option ℕ) (from : ℕ) where
+  -- no clock
+  pub none_spanned : SpanOf f from from None
+  none_spanned j a b = absurd (omega arith)
 
-  module _ (k : ℕ) (s : Span) (g : SpanOf f from k s) (l : from ≤ k) where
+  module _ (k : ℕ) (l : from ≤ k) where
     -- one of the clocks, or the next
     each : (P : ℕ → Type 0) → ((j : ℕ) → from ≤ j → j < k → P j) → P k → (j : ℕ) → from ≤ j → j < k + 1 → P j
     each P h here j a b =
@@ -24,19 +18,48 @@ module _ (f : ℕ → ℕ) (from : ℕ) where
     still : (n : ℕ) → Reached f from k n → Reached f from (k + 1) n
     still n m = record { clock = m.clock; behind = m.behind; before = omega (arith, m.before); is = m.is }
 
-    now : Reached f from (k + 1) (f k)
-    now = record { clock = k; behind = l; before = omega arith; is = refl }
+    now : (n : ℕ) → f k ≡ Some n → Reached f from (k + 1) n
+    now n e = record { clock = k; behind = l; before = omega arith; is = e }
 
-    -- the next clock
-    pub more_spanned : SpanOf f from (k + 1) (span_with s (f k))
-    more_spanned =
+    -- the next clock has no number
+    passed : (s : Option Span) → f k ≡ None → SpanOf f from k s → SpanOf f from (k + 1) s
+    passed None e g = each (λ j. f j ≡ None) g e
+    passed (Some s) e g =
         record {
-          low = tested (ltb (f k) s.least)
-              (λ t. rw t (each (λ j. f k ≤ f j) (λ j a b. omega (arith, ltb-true (f k) s.least t, g.low j a b)) (omega arith)))
-              (λ t. rw t (each (λ j. s.least ≤ f j) (λ j a b. g.low j a b) (ltb-false (f k) s.least t)));
-          high = tested (ltb s.most (f k))
-              (λ t. rw t (each (λ j. f j ≤ f k) (λ j a b. omega (arith, ltb-true s.most (f k) t, g.high j a b)) (omega arith)))
-              (λ t. rw t (each (λ j. f j ≤ s.most) (λ j a b. g.high j a b) (ltb-false s.most (f k) t)));
-          least = tested (ltb (f k) s.least) (λ t. rw t now) (λ t. rw t (still s.least g.least));
-          most = tested (ltb s.most (f k)) (λ t. rw t now) (λ t. rw t (still s.most g.most));
+          low = λ j n a b. each (λ i. f i ≡ Some n → s.least ≤ n) (λ i x y. g.low i n x y) (λ x. cc) j a b;
+          high = λ j n a b. each (λ i. f i ≡ Some n → n ≤ s.most) (λ i x y. g.high i n x y) (λ x. cc) j a b;
+          least = still s.least g.least;
+          most = still s.most g.most;
         }
+
+    -- the next clock's number
+    same : (m n : ℕ) → f k ≡ Some m → f k ≡ Some n → m ≡ n
+    same m n e x = cc
+
+    taken : (s : Option Span) (m : ℕ) → f k ≡ Some m → SpanOf f from k s → SpanOf f from (k + 1) (spanned s (Some m))
+    taken None m e g =
+        record {
+          low = λ j n a b. each (λ i. f i ≡ Some n → m ≤ n) (λ i x y z. let none = g i x y in cc) (λ x. omega (arith, same m n e x)) j a b;
+          high = λ j n a b. each (λ i. f i ≡ Some n → n ≤ m) (λ i x y z. let none = g i x y in cc) (λ x. omega (arith, same m n e x)) j a b;
+          least = now m e;
+          most = now m e;
+        }
+    taken (Some s) m e g =
+        record {
+          low = λ j n a b.
+              each (λ i. f i ≡ Some n → min s.least m ≤ n) (λ i x y z. omega (arith, g.low i n x y z)) (λ x. omega (arith, same m n e x)) j a b;
+          high = λ j n a b.
+              each (λ i. f i ≡ Some n → n ≤ max s.most m) (λ i x y z. omega (arith, g.high i n x y z)) (λ x. omega (arith, same m n e x)) j a b;
+          least =
+              tested (leb s.least m)
+              (λ t. let is : s.least ≡ min s.least m = omega (arith, leb-true s.least m t) in subst (Reached f from (k + 1)) is (still s.least g.least))
+              (λ t. let is : m ≡ min s.least m = omega (arith, leb-false s.least m t) in subst (Reached f from (k + 1)) is (now m e));
+          most =
+              tested (leb m s.most)
+              (λ t. let is : s.most ≡ max s.most m = omega (arith, leb-true m s.most t) in subst (Reached f from (k + 1)) is (still s.most g.most))
+              (λ t. let is : m ≡ max s.most m = omega (arith, leb-false m s.most t) in subst (Reached f from (k + 1)) is (now m e));
+        }
+
+    pub more_spanned : (s : Option Span) (v : Option ℕ) → f k ≡ v → SpanOf f from k s → SpanOf f from (k + 1) (spanned s v)
+    more_spanned s None e g = passed s e g
+    more_spanned s (Some n) e g = taken s n e g

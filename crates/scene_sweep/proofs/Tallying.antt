@@ -1,12 +1,12 @@
 -- A run of one verdict is added to a tally. Assumes nothing.
-use Rattle.std.proofs.Common.{◌≡◌, ℕ, zero, suc, ◌+◌, ◌-◌, ◌%◌, ◌^◌, ◌<◌, ◌≤◌, Bool, true, false, cond, leb, sym, ap, ◌∙◌, ap₂, mod-eq_of_lt, arith, leb-false, leb-true}
+use Rattle.std.proofs.Common.{◌≡◌, ℕ, zero, suc, ◌+◌, ◌-◌, ◌%◌, ◌^◌, ◌<◌, ◌≤◌, Option, Some, None, Bool, true, false, cond, leb, sym, ap, ◌∙◌, ap₂, mod-eq_of_lt, arith, leb-false, leb-true}
 use mathlib.Core.Bool.{false≢true}
 use Rattle.base_shared.proofs.Tests.{either, tested}
 use Rattle.scene_sweep.specs.declared.runs.Run.{Run}
 use Rattle.scene_sweep.specs.declared.tally.Tally.{Tally}
 use Rattle.scene_sweep.specs.declared.tally.Wrong.{Wrong}
 use Rattle.scene_moments.specs.declared.verdict.Seen.{Seen}
-use Rattle.scene_sweep.specs.Tallies.{FirstWrong, Tallied, WrongAt, badness, is_wrong, wrong_before}
+use Rattle.scene_sweep.specs.Tallies.{SomeWrong, Tallied, TalliedOn, WrongAt, badness, is_wrong, wrong_before}
 
 module _ (at : ℕ → Seen) where
   -- m clocks that are all wrong, or all right
@@ -48,19 +48,12 @@ module _ (at : ℕ → Seen) where
       (λ l. ap (λ (k : ℕ). is_wrong (at k).verdict) (omega (arith, leb-true n j l)) ∙ w)
       (λ l. none_wrong n (omega (arith, ap (λ (b : Bool). cond b 1 0 + wrong_before at n) (sym w) ∙ e)) j (leb-false n j l)))
 
-pub none : (at : ℕ → Seen) (t : Tally) → t.count ≡ 0 → Tallied at 0 t
-unfolding wrong_before
-none at t e = record { count = e; first = λ h. absurd (omega arith); worst = λ h. absurd (omega arith) }
-
-module _ (t : Tally) (from : ℕ) (r : Run) (go : from < r.to) (at : ℕ → Seen) (was : Tallied at from t)
-    (first : at from ≡ r.first) (same : (j : ℕ) → from ≤ j → j < r.to → (at j).verdict ≡ r.first.verdict) where
+module _ (from : ℕ) (r : Run) (go : from < r.to) (at : ℕ → Seen) (first : at from ≡ r.first)
+    (same : (j : ℕ) → from ≤ j → j < r.to → (at j).verdict ≡ r.first.verdict) where
   all_of : (b : Bool) → is_wrong r.first.verdict ≡ b → wrong_before at r.to ≡ cond b (r.to - from) 0 + wrong_before at from
   all_of b e =
-      ap (wrong_before at) back
-      ∙ spans at b from (r.to - from) (λ j x y. ap is_wrong (same j x (omega arith)) ∙ e)
-    where
-      back : r.to ≡ from + (r.to - from)
-      back = omega arith
+      let back : r.to ≡ from + (r.to - from) = omega arith in
+      ap (wrong_before at) back ∙ spans at b from (r.to - from) (λ j x y. ap is_wrong (same j x (omega arith)) ∙ e)
 
   -- a clock of the run, or one before it
   behind : {A : Type 0} (j : ℕ) → j < r.to → (j < from → A) → ((at j).verdict ≡ r.first.verdict → A) → A
@@ -75,27 +68,22 @@ module _ (t : Tally) (from : ℕ) (r : Run) (go : from < r.to) (at : ℕ → See
     no_wrong : (j : ℕ) → (at j).verdict ≡ r.first.verdict → is_wrong (at j).verdict ≡ true → ⊥
     no_wrong j e w = false≢true (sym right ∙ ap is_wrong (sym e) ∙ w)
 
-    pub kept : Tallied at r.to t
-    kept =
+    kept : (t : Option Tally) → Tallied at from t → Tallied at r.to t
+    kept None was = omega (arith, was, all_of false right)
+    kept (Some t) was =
         record {
           count = omega (arith, was.count, all_of false right);
-          first = λ h. record { is = still t.first (was.first h).is; right_before = (was.first h).right_before };
-          worst = λ h.
+          first = record { is = still t.first was.first.is; right_before = was.first.right_before };
+          worst =
               record {
-                is = still t.worst (was.worst h).is;
-                none_worse = λ j l w. behind j l (λ m. (was.worst h).none_worse j m w) (λ e. absurd (no_wrong j e w));
-                first = (was.worst h).first;
+                is = still t.worst was.worst.is;
+                none_worse = λ j l w. behind j l (λ m. was.worst.none_worse j m w) (λ e. absurd (no_wrong j e w));
+                first = was.worst.first;
               };
         }
 
   -- ---- a run that is wrong
-  module _ (wrong : is_wrong r.first.verdict ≡ true) (n : ℕ) (counted : n ≡ (t.count + (r.to - from)) % 2 ^ 32) (room : r.to < 2 ^ 32) where
-    more : n ≡ wrong_before at r.to
-    more =
-        counted
-        ∙ mod-eq_of_lt (omega (arith, was.count, most at from))
-        ∙ omega (arith, was.count, all_of true wrong)
-
+  module _ (wrong : is_wrong r.first.verdict ≡ true) where
     abbrev here : Wrong
     here = record { clock = from; seen = r.first }
 
@@ -103,13 +91,13 @@ module _ (t : Tally) (from : ℕ) (r : Run) (go : from < r.to) (at : ℕ → See
     is_here = record { before = go; seen = sym first; wrong = wrong }
 
     -- the first that is wrong
-    pub begun : t.count ≡ 0 → Tallied at r.to (record { count = n; first = here; worst = here })
+    begun : wrong_before at from ≡ 0 → SomeWrong at r.to (record { count = r.to - from; first = here; worst = here })
     begun z =
-        let all_right : (j : ℕ) → j < from → is_wrong (at j).verdict ≡ false = none_wrong at from (sym was.count ∙ z) in
+        let all_right : (j : ℕ) → j < from → is_wrong (at j).verdict ≡ false = none_wrong at from z in
         record {
-          count = more;
-          first = λ h. record { is = is_here; right_before = all_right };
-          worst = λ h.
+          count = omega (arith, z, all_of true wrong);
+          first = record { is = is_here; right_before = all_right };
+          worst =
               record {
                 is = is_here;
                 none_worse = λ j l w. behind j l (λ m. absurd (false≢true (sym (all_right j m) ∙ w))) (λ e. omega (arith, ap badness e));
@@ -117,32 +105,52 @@ module _ (t : Tally) (from : ℕ) (r : Run) (go : from < r.to) (at : ℕ → See
               };
         }
 
-    module _ (some : 1 ≤ t.count) where
-      first_still : FirstWrong at r.to t.first
-      first_still = record { is = still t.first (was.first some).is; right_before = (was.first some).right_before }
+    module _ (t : Tally) (was : SomeWrong at from t) (room : r.to < 2 ^ 32) where
+      more : (t.count + (r.to - from)) % 2 ^ 32 ≡ wrong_before at r.to
+      more = mod-eq_of_lt (omega (arith, was.count, most at from)) ∙ omega (arith, was.count, all_of true wrong)
 
-      pub worse : badness t.worst.seen.verdict < badness r.first.verdict → Tallied at r.to (record { count = n; first = t.first; worst = here })
+      worse : badness t.worst.seen.verdict < badness r.first.verdict
+          → SomeWrong at r.to (record { count = (t.count + (r.to - from)) % 2 ^ 32; first = t.first; worst = here })
       worse b =
           record {
             count = more;
-            first = λ h. first_still;
-            worst = λ h.
+            first = record { is = still t.first was.first.is; right_before = was.first.right_before };
+            worst =
                 record {
                   is = is_here;
-                  none_worse = λ j l w. behind j l (λ m. omega (arith, (was.worst some).none_worse j m w)) (λ e. omega (arith, ap badness e));
-                  first = λ j l w. omega (arith, (was.worst some).none_worse j l w);
+                  none_worse = λ j l w. behind j l (λ m. omega (arith, was.worst.none_worse j m w)) (λ e. omega (arith, ap badness e));
+                  first = λ j l w. omega (arith, was.worst.none_worse j l w);
                 };
           }
 
-      pub no_worse : badness r.first.verdict ≤ badness t.worst.seen.verdict → Tallied at r.to (record { count = n; first = t.first; worst = t.worst })
+      no_worse : badness r.first.verdict ≤ badness t.worst.seen.verdict
+          → SomeWrong at r.to (record { count = (t.count + (r.to - from)) % 2 ^ 32; first = t.first; worst = t.worst })
       no_worse b =
           record {
             count = more;
-            first = λ h. first_still;
-            worst = λ h.
+            first = record { is = still t.first was.first.is; right_before = was.first.right_before };
+            worst =
                 record {
-                  is = still t.worst (was.worst some).is;
-                  none_worse = λ j l w. behind j l (λ m. (was.worst some).none_worse j m w) (λ e. omega (arith, ap badness e));
-                  first = (was.worst some).first;
+                  is = still t.worst was.worst.is;
+                  none_worse = λ j l w. behind j l (λ m. was.worst.none_worse j m w) (λ e. omega (arith, ap badness e));
+                  first = was.worst.first;
                 };
           }
+
+-- what the code leaves
+module _ (from : ℕ) (r : Run) (go : from < r.to) where
+  pub right_run : (t : Option Tally) → is_wrong r.first.verdict ≡ false → TalliedOn t from r t
+  right_run t e at was first same = kept from r go at first same e t was
+
+  pub first_run : is_wrong r.first.verdict ≡ true
+      → TalliedOn None from r (Some (record { count = r.to - from; first = record { clock = from; seen = r.first }; worst = record { clock = from; seen = r.first } }))
+  first_run e at was first same = begun from r go at first same e was
+
+  module _ (t : Tally) (e : is_wrong r.first.verdict ≡ true) (room : r.to < 2 ^ 32) where
+    pub worst_run : badness t.worst.seen.verdict < badness r.first.verdict
+        → TalliedOn (Some t) from r (Some (record { count = (t.count + (r.to - from)) % 2 ^ 32; first = t.first; worst = record { clock = from; seen = r.first } }))
+    worst_run b at was first same = worse from r go at first same e t was room b
+
+    pub milder_run : badness r.first.verdict ≤ badness t.worst.seen.verdict
+        → TalliedOn (Some t) from r (Some (record { count = (t.count + (r.to - from)) % 2 ^ 32; first = t.first; worst = t.worst }))
+    milder_run b at was first same = no_worse from r go at first same e t was room b

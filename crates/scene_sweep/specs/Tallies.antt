@@ -1,18 +1,27 @@
 -- How many moments of a sweep are wrong, the first of them and the worst. At clock j `at j` is seen (docs/SCENES.md). Assumes nothing.
-use Rattle.std.specs.Prelude.{◌≡◌, ℕ, zero, suc, ◌+◌, ◌^◌, ◌<◌, ◌≤◌, Bool, true, false, cond, not, ◌==◌}
+use Rattle.std.specs.Prelude.{◌≡◌, Option, Some, None, ℕ, zero, suc, ◌+◌, ◌^◌, ◌<◌, ◌≤◌, Bool, true, false, cond}
 use Rattle.scene_sweep.specs.declared.runs.Run.{Run}
 use Rattle.scene_sweep.specs.declared.tally.Tally.{Tally}
 use Rattle.scene_sweep.specs.declared.tally.Wrong.{Wrong}
 use Rattle.scene_moments.specs.declared.verdict.Seen.{Seen}
 use Rattle.scene_moments.specs.declared.verdict.Verdict.{Verdict}
+use Rattle.scene_moments.specs.declared.verdict.Verdict.TheVariants.{Right, Early, Late, Lost, Never}
 
 -- early, late, lost or never
 abbrev pub is_wrong : Verdict → Bool
-is_wrong v = not (v.mark == 0)
+is_wrong (Right line) = false
+is_wrong (Early line off) = true
+is_wrong (Late line off) = true
+is_wrong (Lost line) = true
+is_wrong Never = true
 
 -- how bad a verdict is: the lines that it is off; lost is worse than any number of lines, and never is worse than lost
 abbrev pub badness : Verdict → ℕ
-badness v = cond (v.mark == 4) (2 ^ 32 + 1) (cond (v.mark == 3) (2 ^ 32) v.off)
+badness (Right line) = 0
+badness (Early line off) = off
+badness (Late line off) = off
+badness (Lost line) = 2 ^ 32
+badness Never = 2 ^ 32 + 1
 
 -- how many of the clocks before n are wrong
 unfoldable pub wrong_before : (at : ℕ → Seen) (n : ℕ) → ℕ
@@ -36,19 +45,20 @@ pub record WorstWrong (at : ℕ → Seen) (n : ℕ) (w : Wrong) : Type 0 where
   pub none_worse : (j : ℕ) → j < n → is_wrong (at j).verdict ≡ true → badness (at j).verdict ≤ badness w.seen.verdict
   pub first : (j : ℕ) → j < w.clock → is_wrong (at j).verdict ≡ true → badness (at j).verdict < badness w.seen.verdict
 
--- the tally of the clocks before n
-pub record Tallied (at : ℕ → Seen) (n : ℕ) (t : Tally) : Type 0 where
+-- the tally of the clocks before n, of which some are wrong
+pub record SomeWrong (at : ℕ → Seen) (n : ℕ) (t : Tally) : Type 0 where
   pub count : t.count ≡ wrong_before at n
-  pub first : 1 ≤ t.count → FirstWrong at n t.first
-  pub worst : 1 ≤ t.count → WorstWrong at n t.worst
+  pub first : FirstWrong at n t.first
+  pub worst : WorstWrong at n t.worst
 
--- the tally of no clock
-abbrev pub TalliedNone : Tally → Type 0
-TalliedNone t = (at : ℕ → Seen) → Tallied at 0 t
+-- the tally of the clocks before n, if some are wrong
+abbrev pub Tallied : (at : ℕ → Seen) (n : ℕ) → Option Tally → Type 0
+Tallied at n None = wrong_before at n ≡ 0
+Tallied at n (Some t) = SomeWrong at n t
 
 -- a run is added: if t is the tally of the clocks before `from`, and those of the run have its verdict, and the first what it says, u is
 -- the tally of the clocks before the run's end
-abbrev pub TalliedOn : Tally → (from : ℕ) → Run → Tally → Type 0
+abbrev pub TalliedOn : Option Tally → (from : ℕ) → Run → Option Tally → Type 0
 TalliedOn t from r u =
     (at : ℕ → Seen) → Tallied at from t → at from ≡ r.first → ((j : ℕ) → from ≤ j → j < r.to → (at j).verdict ≡ r.first.verdict)
     → Tallied at r.to u

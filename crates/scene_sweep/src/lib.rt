@@ -10,4 +10,4 @@ pub mod tally;
 pub use letters::Met;
 pub use runs::{Run, Sweep};
 pub use spans::Span;
-pub use tally::Tally;
+pub use tally::{Tally, Wrong};

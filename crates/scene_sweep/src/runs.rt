@@ -1,84 +1,83 @@
 // Runs of clocks at which the menu has one verdict.
-ghost use Rattle.std.specs.Prelude.{◌≡◌, ◌<◌};
-ghost use Rattle.scene_sweep.specs.Runs.{RunOf, same_verdict, seen_at};
+ghost use Rattle.std.specs.Prelude.{◌≡◌, ◌+◌, ◌^◌, ◌<◌};
+ghost use Rattle.scene_sweep.specs.Runs.{RunOf, run_of, run_with, seen_at};
 
-use crate::spans::Span;
+use crate::spans::{Span, spanned};
 use irq::VrcIrq;
-use scene_moments::lines::Screen;
 use scene_moments::moment::came_after;
-use scene_moments::verdict::{Seen, Verdict, seen_as};
+use scene_moments::verdict::{Seen, Window};
+use scene_steps::Step;
 
-// What all moments of a sweep share: where the writes end, the revision, the line that is right, and whether the handler leaves
-// interrupts open.
-#[derive(Clone, Copy)]
+// What all moments of a sweep share.
+#[derive(Clone, Copy, PartialEq, Eq)]
 pub struct Sweep {
-    pub screen: Screen,
+    pub window: Window,
     pub revision_b: bool,
-    pub window: u32,
-    pub unmasked: bool,
 }
 
 // What is seen at a run's first clock, the clock behind its last, the counter at that clock, and the clocks that count of its
-// interrupts and on which they are cleared.
+// interrupts and on which they are cleared, if there are such.
 #[derive(Clone, Copy)]
 pub struct Run {
     pub first: Seen,
     pub to: u32,
     pub irq: VrcIrq,
-    pub set: Span,
-    pub cleared: Span,
+    pub set: Option<Span>,
+    pub cleared: Option<Span>,
+}
+
+impl Run {
+    // Of the first clock alone, before which the counter stands so.
+    fn of(seen: Seen, irq: VrcIrq, from: u32) -> Run
+        requires { from + 1 < 2 ^ 32 }
+        ensures { result ≡ run_of seen irq from }
+    {
+        Run {
+            first: seen,
+            to: from + 1,
+            irq: irq.clock().irq,
+            set: spanned(None, seen.set),
+            cleared: spanned(None, seen.cleared),
+        }
+    }
+
+    // With the next clock.
+    fn with(self, seen: Seen) -> Run
+        requires { self.to + 1 < 2 ^ 32 }
+        ensures { result ≡ run_with self seen }
+    {
+        Run {
+            first: self.first,
+            to: self.to + 1,
+            irq: self.irq.clock().irq,
+            set: spanned(self.set, seen.set),
+            cleared: spanned(self.cleared, seen.cleared),
+        }
+    }
 }
 
 impl Sweep {
     // What is seen if the menu runs at clock k, which leaves the counter so.
-    fn seen(self, irq: VrcIrq, k: u32, menu: &[u32]) -> Seen
+    fn seen(self, irq: VrcIrq, k: u32, menu: &[Step]) -> Seen
         ensures { result ≡ seen_at self menu.now irq k }
     {
-        let came = came_after(irq, k, self.revision_b, menu);
-        seen_as(self.unmasked, came, self.screen, self.window)
+        self.window
+            .seen_as(came_after(irq, k, self.revision_b, menu))
     }
 
     // The run that starts at clock `from`, before which the counter stands so.
-    pub fn run(self, irq: VrcIrq, from: u32, clocks: u32, menu: &[u32]) -> Run
+    pub fn run(self, irq: VrcIrq, from: u32, clocks: u32, menu: &[Step]) -> Run
         requires { from < clocks }
         ensures { RunOf self menu.now irq from clocks result }
     {
-        let first = self.seen(irq, from, menu);
-        let mut set = Span::of(first.set);
-        let mut cleared = Span::of(first.cleared);
-        let begun = irq.clock();
-        let mut q = begun.irq;
-        let mut k = from + 1;
-        while k < clocks {
-            let other = self.seen(q, k, menu);
-            if !same(first.verdict, other.verdict) {
-                return Run {
-                    first,
-                    to: k,
-                    irq: q,
-                    set,
-                    cleared,
-                };
+        let mut run = Run::of(self.seen(irq, from, menu), irq, from);
+        while run.to < clocks {
+            let seen = self.seen(run.irq, run.to, menu);
+            if seen.verdict != run.first.verdict {
+                return run;
             }
-            set = set.with(other.set);
-            cleared = cleared.with(other.cleared);
-            let next = q.clock();
-            q = next.irq;
-            k += 1;
+            run = run.with(seen);
         }
-        Run {
-            first,
-            to: k,
-            irq: q,
-            set,
-            cleared,
-        }
+        run
     }
-}
-
-// The same line and the same mark.
-fn same(a: Verdict, b: Verdict) -> bool
-    ensures { result ≡ same_verdict a b }
-{
-    (a.line == b.line) & (a.mark == b.mark)
 }

@@ -1,29 +1,11 @@
 // The least and the most of several numbers.
 ghost use Rattle.std.specs.Prelude.{◌≡◌};
-ghost use Rattle.scene_sweep.specs.Spans.{greater, lesser, span_of, span_with};
+ghost use Rattle.scene_sweep.specs.Spans.{span_of, span_with, spanned};
 
-#[derive(Clone, Copy)]
+#[derive(Clone, Copy, PartialEq, Eq)]
 pub struct Span {
     pub least: u32,
     pub most: u32,
-}
-
-fn lesser(a: u32, b: u32) -> u32
-    ensures { result ≡ lesser a b }
-{
-    if b < a {
-        return b;
-    }
-    a
-}
-
-fn greater(a: u32, b: u32) -> u32
-    ensures { result ≡ greater a b }
-{
-    if a < b {
-        return b;
-    }
-    a
 }
 
 impl Span {
@@ -38,8 +20,20 @@ impl Span {
     pub fn with(self, n: u32) -> Span
         ensures { result ≡ span_with self n }
     {
-        let least = lesser(self.least, n);
-        let most = greater(self.most, n);
-        Span { least, most }
+        Span {
+            least: self.least.min(n),
+            most: self.most.max(n),
+        }
+    }
+}
+
+// The span of some numbers, with one more if there is one.
+pub fn spanned(span: Option<Span>, more: Option<u32>) -> Option<Span>
+    ensures { result ≡ spanned span more }
+{
+    match (span, more) {
+        (Some(span), Some(n)) => Some(span.with(n)),
+        (None, Some(n)) => Some(Span::of(n)),
+        (span, None) => span,
     }
 }

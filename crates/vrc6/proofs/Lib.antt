@@ -1,3 +1,0 @@
-pub mod Creations
-pub mod Engines
-pub mod Stores

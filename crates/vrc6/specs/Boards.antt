@@ -12,6 +12,7 @@ use Rattle.irq.specs.declared.VrcIrq.{VrcIrq}
 use Rattle.irq.specs.Interrupt.{irq_zero}
 use Rattle.audio.specs.declared.Audio.{Audio}
 use Rattle.audio.specs.Sound.{audio_at}
+use Rattle.vrc6_engine.specs.declared.Engine.{Engine}
 use Rattle.vrc6.specs.declared.board.Board.{Board}
 
 -- a board, and the two buffers that it is lent (01, Records 2)
@@ -65,28 +66,19 @@ zero_board =
 -- a board with other banking values, and the entries that follow from them; the setting stays (01, Banks and decode 2; 02, change 1)
 abbrev pub with_banking : Board → Banking → Board
 with_banking b k =
-    record {
-      layout = b.layout;
+    record b {
       prg_pages = cpu_entries b.layout k;
       chr_pages = picture_entries b.layout k;
       banking = k;
-      irq = b.irq;
-      audio = b.audio;
-      open_bus = b.open_bus;
     }
 
+-- interrupt and sound of a board
+abbrev pub engine_of : Board → Engine
+engine_of b = record { irq = b.irq; audio = b.audio }
+
 -- a board with another interrupt and another sound; the setting stays (02, change 1)
-abbrev pub with_engine : Board → VrcIrq → Audio → Board
-with_engine b q a =
-    record {
-      layout = b.layout;
-      prg_pages = b.prg_pages;
-      chr_pages = b.chr_pages;
-      banking = b.banking;
-      irq = q;
-      audio = a;
-      open_bus = b.open_bus;
-    }
+abbrev pub with_engine : Board → Engine → Board
+with_engine b e = record b { irq = e.irq; audio = e.audio }
 
 -- the CPU's table of a board, or the picture side's
 abbrev pub table : Side → Board → List Page

@@ -1,5 +1,5 @@
 -- The board's calls: what each does, and its whole answer, refused or not (01, The board's calls; 00, 1; 00, 2). Assumes nothing.
-use Rattle.std.specs.Prelude.{true, List, ℕ, length}
+use Rattle.std.specs.Prelude.{true, false, List, ℕ, length}
 use Rattle.base_shared.specs.Refusals.{unless}
 use Rattle.memory_tables.specs.Paging.{Side, cpu, picture}
 use Rattle.memory_access.specs.Access.{stored, viewed}
@@ -10,7 +10,7 @@ use Rattle.vrc6_banking.specs.Banking.{bank_written}
 use Rattle.irq.specs.Writes.{irq_written}
 use Rattle.audio.specs.Sound.{audio_written}
 use Rattle.vrc6_parts.specs.Reads.{Caller, by_cpu, by_picture, peeked_by}
-use Rattle.vrc6_engine.specs.Engine.{engine_clocked, engine_clock, engine_was_reset, engine_reset, engine_level, engine_forecast}
+use Rattle.vrc6_engine.specs.Engine.{engine_clocked, engine_was_reset, engine_level, engine_forecast}
 use Rattle.vrc6.specs.declared.board.Board.{Board}
 use Rattle.vrc6.specs.declared.board.Created.{Created}
 use Rattle.vrc6.specs.declared.board.ByteRead.{ByteRead}
@@ -19,7 +19,7 @@ use Rattle.vrc6.specs.declared.board.Clocked.{Clocked}
 use Rattle.vrc6.specs.declared.board.Leveled.{Leveled}
 use Rattle.vrc6.specs.declared.board.Forecasted.{Forecasted}
 use Rattle.vrc6.specs.Boards.{State, held_by, Creation, new_board, zero_board, with_banking, with_engine, entry_of}
-use Rattle.vrc6.specs.Checks.{create_refusal, memory_refusal, cpu_write_refusal}
+use Rattle.vrc6.specs.Checks.{create_refusal, engine_refusal, memory_refusal, cpu_write_refusal}
 
 -- ---- create
 -- the new board, or refused the all-zero one; both buffers stay as they are (01, The board's calls 1; 01, The board's calls 3)
@@ -48,8 +48,8 @@ byte_read k x address =
 abbrev pub register_written : Register → (v : ℕ) → Board → Board
 register_written Nothing v b = b
 register_written (OfBank r) v b = with_banking b (bank_written r v b.banking)
-register_written (OfAudio r) v b = with_engine b b.irq (audio_written r v b.audio)
-register_written (OfIrq r) v b = with_engine b (irq_written r v b.irq) b.audio
+register_written (OfAudio r) v b = record b { audio = audio_written r v b.audio }
+register_written (OfIrq r) v b = record b { irq = irq_written r v b.irq }
 
 -- the register at an address takes a byte, and where there is none the board stays (01, Banks and decode 1)
 abbrev pub written_at : Board → (address byte : ℕ) → Board
@@ -87,23 +87,21 @@ picture_write x address byte =
 -- ---- clock, reset, level, forecast
 -- a board after a clock that is not refused, which moves interrupt and sound only (01, The board's calls 1)
 abbrev pub clocked : Board → Board
-clocked b = let after = engine_clocked b.irq b.audio in with_engine b after.irq after.audio
+clocked b = with_engine b (engine_clocked b.irq b.audio).engine
 
 -- a clock's answer; refused, the board is as given and there is no tick (01, The board's calls 1; 01, The board's calls 3)
 abbrev pub clock : Board → Clocked
 clock b =
-    let after = engine_clock b.irq b.audio in
-    record { board = with_engine b after.irq after.audio; ticked = after.ticked; refusal = after.refusal }
+    let n = engine_refusal b in
+    record { board = unless n (clocked b) b; ticked = unless n (engine_clocked b.irq b.audio).ticked false; refusal = n }
 
 -- a board after a reset that is not refused, soft or hard: no bank moves (01, Interrupt 1; 01, Sound 1)
 abbrev pub was_reset : Board → Board
-was_reset b = let after = engine_was_reset b.audio in with_engine b after.irq after.audio
+was_reset b = with_engine b (engine_was_reset b.audio)
 
 -- a reset's answer; refused, the board is as given (01, The board's calls 1; 01, The board's calls 3)
 abbrev pub reset : Board → Written
-reset b =
-    let after = engine_reset b.irq b.audio in
-    record { board = with_engine b after.irq after.audio; refusal = after.refusal }
+reset b = let n = engine_refusal b in record { board = unless n (was_reset b) b; refusal = n }
 
 -- the board as given, and the level under its name or the number (01, The board's calls 2; 01, The board's calls 3)
 abbrev pub level : Board → Leveled

@@ -1,10 +1,10 @@
 // The board, and the answers of its calls.
 use audio::{Audio, Level};
+use base_shared::Refusal;
 use irq::VrcIrq;
 use memory_layout::MemoryLayout;
 use memory_pages::Page;
 use vrc6_banking::banking::Banking;
-pub use vrc6_engine::answers::Forecast;
 
 #[repr(C)]
 #[derive(Clone, Copy)]
@@ -26,7 +26,7 @@ pub enum ResetKind {
     Hard,
 }
 
-// The answers. A refusal is a number, 0 for none.
+// The answers. Each hands the next board back and gives the refusal as a number, 0 for none: so the board's description lays down.
 #[derive(Clone, Copy)]
 pub struct Created {
     pub board: Board,
@@ -62,5 +62,5 @@ pub struct Leveled {
 #[derive(Clone, Copy)]
 pub struct Forecasted {
     pub board: Board,
-    pub forecast: Forecast,
+    pub forecast: Result<Option<u32>, Refusal>,
 }

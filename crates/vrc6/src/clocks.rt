@@ -1,26 +1,47 @@
 // The calls that check interrupt and sound values only: clock, reset, level, forecast. Crate vrc6_engine does them without the
 // board around both.
 ghost use Rattle.std.specs.Prelude.{◌≡◌};
+ghost use Rattle.vrc6.specs.Boards.{engine_of, with_engine};
 ghost use Rattle.vrc6.specs.Calls.{clock, forecast, level, reset};
 
 use crate::board::{Board, Clocked, Forecasted, Leveled, ResetKind, Written};
-use vrc6_engine::answers::{forecast_engine, level_engine, reset_engine};
-use vrc6_engine::clock_engine;
+use vrc6_engine::Engine;
 
 impl Board {
+    // Interrupt and sound, which the board holds side by side.
+    pub fn engine(self) -> Engine
+        ensures { result ≡ engine_of self }
+    {
+        Engine {
+            irq: self.irq,
+            audio: self.audio,
+        }
+    }
+
+    fn with_engine(self, engine: Engine) -> Board
+        ensures { result ≡ with_engine self engine }
+    {
+        Board {
+            irq: engine.irq,
+            audio: engine.audio,
+            ..self
+        }
+    }
+
     pub fn clock(self) -> Clocked
         ensures { result ≡ clock self }
     {
-        let r = clock_engine(self.irq, self.audio);
-        let irq = r.irq;
-        let audio = r.audio;
-        let mut board = self;
-        board.irq = irq;
-        board.audio = audio;
-        Clocked {
-            board,
-            ticked: r.ticked,
-            refusal: r.refusal,
+        match self.engine().clock() {
+            Ok(next) => Clocked {
+                board: self.with_engine(next.engine),
+                ticked: next.ticked,
+                refusal: 0,
+            },
+            Err(refusal) => Clocked {
+                board: self,
+                ticked: false,
+                refusal: u8::from(refusal),
+            },
         }
     }
 
@@ -28,33 +49,34 @@ impl Board {
     pub fn reset(self, _kind: ResetKind) -> Written
         ensures { result ≡ reset self }
     {
-        let after = reset_engine(self.irq, self.audio);
-        let irq = after.irq;
-        let audio = after.audio;
-        let mut next = self;
-        next.irq = irq;
-        next.audio = audio;
-        Written {
-            board: next,
-            refusal: after.refusal,
+        match self.engine().reset() {
+            Ok(engine) => Written {
+                board: self.with_engine(engine),
+                refusal: 0,
+            },
+            Err(refusal) => Written {
+                board: self,
+                refusal: u8::from(refusal),
+            },
         }
     }
 
     pub fn level(self) -> Leveled
         ensures { result ≡ level self }
     {
-        let level = level_engine(self.irq, self.audio);
-        Leveled { board: self, level }
+        Leveled {
+            board: self,
+            level: self.engine().level(),
+        }
     }
 
     // The clocks until the interrupt; None if and only if the counter is not enabled.
     pub fn forecast(self) -> Forecasted
         ensures { result ≡ forecast self }
     {
-        let forecast = forecast_engine(self.irq, self.audio);
         Forecasted {
             board: self,
-            forecast,
+            forecast: self.engine().forecast(),
         }
     }
 }

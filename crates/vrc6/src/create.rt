@@ -1,16 +1,15 @@
 // Create: the one call that makes a board.
 ghost use Rattle.std.specs.Prelude.{◌≡◌};
-ghost use Rattle.memory_layout.specs.Required.{Limits};
 ghost use Rattle.vrc6.specs.Boards.{new_board, zero_board};
 ghost use Rattle.vrc6.specs.Calls.{create};
 
 use crate::board::{Board, Created};
 use audio::Audio;
 use irq::VrcIrq;
-use memory_layout::MemoryLayout;
+use memory_layout::{LimitedLayout, MemoryLayout};
 use memory_pages::Page;
 use vrc6_banking::banking::{Banking, Settings};
-use vrc6_parts::create::create_refusal;
+use vrc6_parts::create::check_creation;
 use vrc6_tables::{chr_pages, prg_pages};
 
 impl Board {
@@ -36,15 +35,14 @@ impl Board {
     }
 
     // A new board: registers and interrupt 0, sound as new, the nametables of the mirroring and the bus setting given.
-    fn new(layout: MemoryLayout, settings: Settings) -> Board
-        requires { Limits layout }
-        ensures { result ≡ new_board layout settings }
+    fn new(limited: LimitedLayout, settings: Settings) -> Board
+        ensures { result ≡ new_board limited.layout settings }
     {
         let banking = Banking::new(settings);
         Board {
-            layout,
-            prg_pages: prg_pages(layout, banking),
-            chr_pages: chr_pages(layout, banking),
+            layout: limited.layout,
+            prg_pages: prg_pages(limited, banking),
+            chr_pages: chr_pages(limited, banking),
             banking,
             irq: VrcIrq::new(),
             audio: Audio::new(),
@@ -60,16 +58,15 @@ impl Board {
     ) -> Created
         ensures { result ≡ create (record { layout = layout; settings = settings; fixed = fixed.now; changing = changing.now }) }
     {
-        let refusal = create_refusal(layout, fixed, changing);
-        if refusal != 0 {
-            return Created {
+        match check_creation(layout, fixed, changing) {
+            Ok(limited) => Created {
+                board: Board::new(limited, settings),
+                refusal: 0,
+            },
+            Err(refusal) => Created {
                 board: Board::zero(),
-                refusal,
-            };
-        }
-        Created {
-            board: Board::new(layout, settings),
-            refusal,
+                refusal: u8::from(refusal),
+            },
         }
     }
 }

@@ -3,7 +3,7 @@
 //
 // A call tests what it checks before anything changes, and refuses by number: 0 for none, otherwise the first failing
 // of the conditions 1, 2, 3 and 4. Refused, it gives the board back as it was, and leaves both buffers alone; only create
-// gives the zero board.
+// gives the zero board. Both buffers are parameters of their own: C lends them so, and a read borrows both while a write changes one.
 #![tactic(auto)]
 
 pub mod board;

@@ -1,12 +1,14 @@
 // The calls that change nothing: CPU read, picture read, page view.
 ghost use Rattle.std.specs.Prelude.{◌≡◌};
+ghost use Rattle.memory_access.specs.Access.{answered};
 ghost use Rattle.memory_tables.specs.Paging.{cpu, picture};
 ghost use Rattle.vrc6_parts.specs.Reads.{by_cpu, by_picture};
 ghost use Rattle.vrc6.specs.Boards.{entry_of, held_by};
 ghost use Rattle.vrc6.specs.Calls.{byte_read, page_view, page_view_refusal};
 
 use crate::board::{Board, ByteRead};
-use memory_access::{access_refusal, view};
+use base_shared::{Refusal, number_of};
+use memory_access::{Peeked, check_access, view};
 use memory_pages::Page;
 use memory_tables::chr_table::chr_entry;
 use memory_tables::prg_table::prg_entry;
@@ -17,41 +19,42 @@ impl Board {
     pub(crate) fn cpu_page(self, addr: u16) -> Page
         ensures { result ≡ entry_of cpu self addr }
     {
-        let pages = self.prg_pages;
-        prg_entry(pages, addr)
+        prg_entry(self.prg_pages, addr)
     }
 
     // The entry that serves a picture address.
     pub(crate) fn picture_page(self, addr: u16) -> Page
         ensures { result ≡ entry_of picture self addr }
     {
-        let pages = self.chr_pages;
-        chr_entry(pages, addr)
+        chr_entry(self.chr_pages, addr)
     }
 
     // bus is the byte that the bus last held: with the setting on, a read where nothing is there hands it back.
     pub fn cpu_read(self, fixed: &[u8], changing: &[u8], addr: u16, bus: u8) -> ByteRead
         ensures { result ≡ byte_read (by_cpu bus) (held_by self fixed.now changing.now) addr }
     {
-        let open_bus = self.open_bus;
         let page = self.cpu_page(addr);
-        let got = cpu_peek(self.layout, page, open_bus, fixed, changing, addr, bus);
-        ByteRead {
-            board: self,
-            byte: got.byte,
-            refusal: got.refusal,
-        }
+        let answer = cpu_peek(self.layout, page, self.open_bus, fixed, changing, addr, bus);
+        self.byte_read(answer)
     }
 
     pub fn picture_read(self, fixed: &[u8], changing: &[u8], addr: u16) -> ByteRead
         ensures { result ≡ byte_read by_picture (held_by self fixed.now changing.now) addr }
     {
         let page = self.picture_page(addr);
-        let shown = picture_peek(self.layout, page, fixed, changing, addr);
+        let answer = picture_peek(self.layout, page, fixed, changing, addr);
+        self.byte_read(answer)
+    }
+
+    // A read's byte or refusal as its answer.
+    fn byte_read(self, answer: Result<u8, Refusal>) -> ByteRead
+        ensures { result ≡ record { board = self; byte = (answered answer).byte; refusal = (answered answer).refusal } }
+    {
+        let peeked = Peeked::from(answer);
         ByteRead {
             board: self,
-            byte: shown.byte,
-            refusal: shown.refusal,
+            byte: peeked.byte,
+            refusal: peeked.refusal,
         }
     }
 
@@ -67,6 +70,7 @@ impl Board {
         ensures { result ≡ page_view_refusal (held_by self fixed.now changing.now) addr }
     {
         let page = self.picture_page(addr);
-        access_refusal(self.layout, page, fixed.len(), changing.len(), true)
+        let answer = check_access(self.layout, page, fixed.len(), changing.len(), true);
+        number_of(answer)
     }
 }

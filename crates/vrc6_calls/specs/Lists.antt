@@ -1,7 +1,6 @@
 -- A call as a value, and lists of calls: each call's whole answer, and the board and buffers that it leaves to the next
 -- (01, Demand 3's lists and their ledger). Assumes nothing.
-use Rattle.std.specs.Prelude.{List, [], ◌∷◌, ℕ, Float}
-use Rattle.std.proofs.Math.Option.{Option, none, some}
+use Rattle.std.specs.Prelude.{List, [], ◌∷◌, ℕ, Float, Option, Result, Ok, Err}
 use Rattle.base_shared.specs.Rows.{flag}
 use Rattle.memory_tables.specs.Paging.{Side, cpu, picture}
 use Rattle.vrc6_parts.specs.Reads.{Caller, by_cpu, by_picture}
@@ -12,8 +11,8 @@ use Rattle.vrc6.specs.declared.board.Written.{Written}
 use Rattle.vrc6.specs.declared.board.Clocked.{Clocked}
 use Rattle.vrc6.specs.declared.board.Leveled.{Leveled}
 use Rattle.vrc6.specs.declared.board.Forecasted.{Forecasted}
-use Rattle.vrc6_engine.specs.declared.answers.Forecast.{Forecast}
-use Rattle.vrc6_engine.specs.declared.answers.Forecast.TheVariants.{None, In, Refused}
+use Rattle.base_shared.specs.declared.Refusal.{Refusal}
+use Rattle.base_shared.specs.Numbers.{number_of}
 use Rattle.vrc6_calls.specs.declared.Call.{Call}
 use Rattle.vrc6_calls.specs.declared.Call.TheVariants.{CpuRead, CpuWrite, LentCpuWrite, PictureRead, PictureWrite, Clock, LentClock, SoftReset, HardReset, ReadLevel, PageView, ReadForecast}
 use Rattle.vrc6_calls.specs.declared.Answer.{Answer}
@@ -94,16 +93,13 @@ changing_after x k = changing_by x (shape k)
 
 -- ---- what an answer says
 -- the refusal number of a forecast (01, The form to use in each place 12)
-abbrev pub forecast_refusal : Forecast → ℕ
-forecast_refusal None = 0
-forecast_refusal (In n) = 0
-forecast_refusal (Refused n) = n
+abbrev pub forecast_refusal : Result (Option ℕ) Refusal → ℕ
+forecast_refusal answer = number_of answer
 
 -- the forecast that an answer returns: None is one, a refusal is none (01, The form to use in each place 12)
-abbrev pub forecast_part : Forecast → List (Option ℕ)
-forecast_part None = none ∷ []
-forecast_part (In n) = some n ∷ []
-forecast_part (Refused n) = []
+abbrev pub forecast_part : Result (Option ℕ) Refusal → List (Option ℕ)
+forecast_part (Ok clocks) = clocks ∷ []
+forecast_part (Err refusal) = []
 
 -- the parts of an answer
 pub record Parts : Type 0 where

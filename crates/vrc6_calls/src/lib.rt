@@ -1,5 +1,5 @@
 // The calls of the board as values, and one function that plays them: what replaying a script, and every claim about lists
-// of calls, goes by.
+// of calls, goes by. Both buffers are parameters of their own: C lends them so, and a read borrows both while a write changes one.
 #![tactic(auto)]
 
 ghost use Rattle.std.specs.Prelude.{◌≡◌};
@@ -8,12 +8,13 @@ ghost use Rattle.vrc6_calls.specs.Lists.{changing_after, step};
 ghost use Rattle.vrc6_calls.specs.Stepping.{of_byte_read, of_clocked, of_forecasted, of_leveled, of_written};
 
 use audio::Level;
+use base_shared::Refusal;
 use vrc6::Board;
-use vrc6::board::{ByteRead, Clocked, Forecast, Forecasted, Leveled, ResetKind, Written};
+use vrc6::board::{ByteRead, Clocked, Forecasted, Leveled, ResetKind, Written};
 
 // A call with its arguments; a CPU read has the bus byte behind its address. Clock and CPU write stand twice, by value and for
 // their lent forms, which promise the same.
-#[derive(Clone, Copy)]
+#[derive(Clone, Copy, Debug, PartialEq, Eq)]
 pub enum Call {
     CpuRead(u16, u8),
     CpuWrite(u16, u8),
@@ -37,7 +38,7 @@ pub enum Answer {
     Done(u8),
     Tick(bool, u8),
     OfLevel(Level),
-    OfForecast(Forecast),
+    OfForecast(Result<Option<u32>, Refusal>),
     View(u8),
 }
 
@@ -48,55 +49,58 @@ pub struct Stepped {
     pub answer: Answer,
 }
 
-fn of_byte_read(r: ByteRead) -> Stepped
-    ensures { result ≡ of_byte_read r }
-{
-    let board = r.board;
-    Stepped {
-        board,
-        answer: Answer::Byte(r.byte, r.refusal),
+impl From<ByteRead> for Stepped {
+    ghost from_gives = { λ read stepped. stepped ≡ of_byte_read read };
+
+    fn from(read: ByteRead) -> Stepped {
+        Stepped {
+            board: read.board,
+            answer: Answer::Byte(read.byte, read.refusal),
+        }
     }
 }
 
-fn of_written(r: Written) -> Stepped
-    ensures { result ≡ of_written r }
-{
-    let board = r.board;
-    Stepped {
-        board,
-        answer: Answer::Done(r.refusal),
+impl From<Written> for Stepped {
+    ghost from_gives = { λ written stepped. stepped ≡ of_written written };
+
+    fn from(written: Written) -> Stepped {
+        Stepped {
+            board: written.board,
+            answer: Answer::Done(written.refusal),
+        }
     }
 }
 
-fn of_clocked(r: Clocked) -> Stepped
-    ensures { result ≡ of_clocked r }
-{
-    let board = r.board;
-    Stepped {
-        board,
-        answer: Answer::Tick(r.ticked, r.refusal),
+impl From<Clocked> for Stepped {
+    ghost from_gives = { λ clocked stepped. stepped ≡ of_clocked clocked };
+
+    fn from(clocked: Clocked) -> Stepped {
+        Stepped {
+            board: clocked.board,
+            answer: Answer::Tick(clocked.ticked, clocked.refusal),
+        }
     }
 }
 
-fn of_leveled(r: Leveled) -> Stepped
-    ensures { result ≡ of_leveled r }
-{
-    let board = r.board;
-    let level = r.level;
-    Stepped {
-        board,
-        answer: Answer::OfLevel(level),
+impl From<Leveled> for Stepped {
+    ghost from_gives = { λ leveled stepped. stepped ≡ of_leveled leveled };
+
+    fn from(leveled: Leveled) -> Stepped {
+        Stepped {
+            board: leveled.board,
+            answer: Answer::OfLevel(leveled.level),
+        }
     }
 }
 
-fn of_forecasted(r: Forecasted) -> Stepped
-    ensures { result ≡ of_forecasted r }
-{
-    let board = r.board;
-    let forecast = r.forecast;
-    Stepped {
-        board,
-        answer: Answer::OfForecast(forecast),
+impl From<Forecasted> for Stepped {
+    ghost from_gives = { λ forecasted stepped. stepped ≡ of_forecasted forecasted };
+
+    fn from(forecasted: Forecasted) -> Stepped {
+        Stepped {
+            board: forecasted.board,
+            answer: Answer::OfForecast(forecasted.forecast),
+        }
     }
 }
 
@@ -106,33 +110,22 @@ pub fn step(board: Board, fixed: &[u8], changing: &mut [u8], call: Call) -> Step
     ensures changing_after { changing.new ≡ changing_after (held_by board fixed.now changing.old) call }
 {
     match call {
-        Call::CpuRead(addr, bus) => of_byte_read(board.cpu_read(fixed, &*changing, addr, bus)),
-        Call::CpuWrite(addr, val) => of_written(board.cpu_write(fixed, &mut *changing, addr, val)),
-        Call::LentCpuWrite(addr, val) => of_written(board.cpu_write(
-            fixed,
-            &mut *changing,
-            addr,
-            val,
-        )),
-        Call::PictureRead(addr) => of_byte_read(board.picture_read(fixed, &*changing, addr)),
-        Call::PictureWrite(addr, val) => of_written(board.picture_write(
-            fixed,
-            &mut *changing,
-            addr,
-            val,
-        )),
-        Call::Clock => of_clocked(board.clock()),
-        Call::LentClock => of_clocked(board.clock()),
-        Call::SoftReset => of_written(board.reset(ResetKind::Soft)),
-        Call::HardReset => of_written(board.reset(ResetKind::Hard)),
-        Call::ReadLevel => of_leveled(board.level()),
-        Call::PageView(addr) => {
-            let refusal = board.page_view_refusal(fixed, &*changing, addr);
-            Stepped {
-                board,
-                answer: Answer::View(refusal),
-            }
+        Call::CpuRead(addr, bus) => Stepped::from(board.cpu_read(fixed, &*changing, addr, bus)),
+        Call::CpuWrite(addr, val) | Call::LentCpuWrite(addr, val) => {
+            Stepped::from(board.cpu_write(fixed, &mut *changing, addr, val))
         }
-        Call::ReadForecast => of_forecasted(board.forecast()),
+        Call::PictureRead(addr) => Stepped::from(board.picture_read(fixed, &*changing, addr)),
+        Call::PictureWrite(addr, val) => {
+            Stepped::from(board.picture_write(fixed, &mut *changing, addr, val))
+        }
+        Call::Clock | Call::LentClock => Stepped::from(board.clock()),
+        Call::SoftReset => Stepped::from(board.reset(ResetKind::Soft)),
+        Call::HardReset => Stepped::from(board.reset(ResetKind::Hard)),
+        Call::ReadLevel => Stepped::from(board.level()),
+        Call::PageView(addr) => Stepped {
+            board,
+            answer: Answer::View(board.page_view_refusal(fixed, &*changing, addr)),
+        },
+        Call::ReadForecast => Stepped::from(board.forecast()),
     }
 }

@@ -1,5 +1,5 @@
--- Why a clock that passes the tests of `steady_timers` moves of the sound the timers only. Assumes nothing.
-use Rattle.std.proofs.Common.{◌≡◌, ℕ, ◌-◌, ◌≤◌, Bool, true, false, cond, ◌&&◌, ◌||◌, eqb, sym, refl, ◌∙◌, true≢false}
+-- Why a clock that passes the tests of `Engine::steady` moves of the sound the timers only. Assumes nothing.
+use Rattle.std.proofs.Common.{◌≡◌, ℕ, ◌-◌, ◌≤◌, Bool, true, false, cond, ◌&&◌, ◌||◌, eqb, sym, refl, ◌∙◌, true≢false, Ok}
 use lib.Ieee.{Float}
 use borrow.Author.Tests.{eqb-false}
 use Rattle.base_shared.proofs.Tests.{and_left, and_right, both}
@@ -10,8 +10,13 @@ use Rattle.audio.specs.Sound.{summed}
 use Rattle.audio_channels.specs.Ranges.{pulse_in_range, saw_in_range, channels_in_range}
 use Rattle.audio_channels.proofs.Ranged.{three, pulse_in, saw_in}
 use Rattle.audio.proofs.Steady.{audio_falls, sum_in_range}
-use Rattle.vrc6_engine.specs.Engine.{engine_clock, only_timers}
-use Rattle.vrc6_engine.proofs.Engines.{engine_steady}
+use Rattle.irq.specs.Timing.{clock_answer}
+use Rattle.audio.specs.Sound.{audio_clocked, with_timers}
+use Rattle.vrc6_engine.specs.Engine.{engine_ok, engine_clock, only_timers}
+
+-- where of the sound a clock moves the timers only
+moved : (q : VrcIrq) (a : Audio) (t u v : ℕ) → engine_ok q a ≡ true → audio_clocked a ≡ with_timers a t u v → engine_clock q a ≡ Ok (only_timers q a t u v)
+moved q a t u v e m = rw e (λ i. Ok (record { engine = record { irq = (clock_answer q).irq; audio = m i }; ticked = (clock_answer q).ticked }))
 
 or_left : (a b : Bool) → (a || b) ≡ false → a ≡ false
 or_left true b h = h
@@ -32,14 +37,14 @@ module _ (q : VrcIrq) (a : Audio) (t u v : ℕ) (same irq-in channels-in : Bool)
       → sum ≡ summed a.pulse1 a.pulse2 a.saw → (same ≡ true → a.out ≡ sum)
       → irq-in ≡ irq_held q → channels-in ≡ channels_in_range a.pulse1 a.pulse2 a.saw
       → (same && irq-in && channels-in) ≡ true → a.saw.accum ≤ 255
-      → engine_clock q a ≡ only_timers q a t u v
+      → engine_clock q a ≡ Ok (only_timers q a t u v)
   timed f g h runs s o i c tests l =
       let out : a.out ≡ summed a.pulse1 a.pulse2 a.saw = o (and_left same irq-in (and_left (same && irq-in) channels-in tests)) ∙ s in
       let ranged : channels_in_range a.pulse1 a.pulse2 a.saw ≡ true = sym c ∙ and_right (same && irq-in) channels-in tests in
       let each = three (pulse_in_range a.pulse1) (pulse_in_range a.pulse2) (saw_in_range a.saw) ranged in
       let two = or_left (eqb t 0 || eqb u 0 || eqb v 0) a.halt runs in
       let one = or_left (eqb t 0 || eqb u 0) (eqb v 0) two in
-      engine_steady q a t u v
+      moved q a t u v
       (both (sym i ∙ and_right same irq-in (and_left (same && irq-in) channels-in tests)) (sum_in_range a ranged l out))
       (audio_falls a t u v (or_right (eqb t 0 || eqb u 0 || eqb v 0) a.halt runs) out
       (f (pulse_in a.pulse1 each.0).channel.timer_low, eqb-false t 0 (or_left (eqb t 0) (eqb u 0) one))

@@ -2,48 +2,86 @@
 #![tactic(auto)]
 
 ghost use Rattle.std.specs.Prelude.{◌≡◌};
-ghost use Rattle.vrc6_engine.specs.Engine.{engine_clock, engine_ok};
+ghost use Rattle.vrc6_engine.specs.Engine.{engine_clock, engine_forecast, engine_level, engine_ok, engine_reset};
 
-use audio::Audio;
+use audio::{Audio, Level};
+use base_shared::Refusal;
 use irq::VrcIrq;
 
-pub mod answers;
 pub mod steady;
 
-// Interrupt and sound after a clock, whether it ticked, and the refusal's number.
+// What a clock moves. A board holds both beside each other, as C lays it out.
 #[derive(Clone, Copy)]
-pub struct EngineClocked {
+pub struct Engine {
     pub irq: VrcIrq,
     pub audio: Audio,
+}
+
+// Interrupt and sound after a clock, and whether it ticked.
+#[derive(Clone, Copy)]
+pub struct EngineClocked {
+    pub engine: Engine,
     pub ticked: bool,
-    pub refusal: u8,
 }
 
-// Whether interrupt and sound values are in range.
-pub fn engine_in_range(irq: VrcIrq, audio: Audio) -> bool
-    ensures { result ≡ engine_ok irq audio }
-{
-    irq.in_range() & audio.in_range()
-}
-
-// Interrupt, then sound.
-pub fn clock_engine(irq: VrcIrq, audio: Audio) -> EngineClocked
-    ensures { result ≡ engine_clock irq audio }
-{
-    if engine_in_range(irq, audio) {
-        let next = irq.clock();
-        let after = next.irq;
-        return EngineClocked {
-            irq: after,
-            audio: audio.clock(),
-            ticked: next.ticked,
-            refusal: 0,
-        };
+impl Engine {
+    // Whether interrupt and sound values are in range.
+    pub fn in_range(self) -> bool
+        ensures { result ≡ engine_ok self.irq self.audio }
+    {
+        self.irq.in_range() & self.audio.in_range()
     }
-    EngineClocked {
-        irq,
-        audio,
-        ticked: false,
-        refusal: 3,
+
+    // Interrupt, then sound.
+    pub fn clock(self) -> Result<EngineClocked, Refusal>
+        ensures { result ≡ engine_clock self.irq self.audio }
+    {
+        if self.in_range() {
+            let next = self.irq.clock();
+            Ok(EngineClocked {
+                engine: Engine {
+                    irq: next.irq,
+                    audio: self.audio.clock(),
+                },
+                ticked: next.ticked,
+            })
+        } else {
+            Err(Refusal::Range)
+        }
+    }
+
+    // The interrupt is cleared, of the sound halt only.
+    pub fn reset(self) -> Result<Engine, Refusal>
+        ensures { result ≡ engine_reset self.irq self.audio }
+    {
+        if self.in_range() {
+            Ok(Engine {
+                irq: self.irq.reset(),
+                audio: self.audio.reset(),
+            })
+        } else {
+            Err(Refusal::Range)
+        }
+    }
+
+    pub fn level(self) -> Level
+        ensures { result ≡ engine_level self.irq self.audio }
+    {
+        if self.in_range() {
+            self.audio.named_output()
+        } else {
+            Level::Refused(Refusal::Range)
+        }
+    }
+
+    // The clocks until the interrupt; None if and only if the counter is not enabled.
+    pub fn forecast(self) -> Result<Option<u32>, Refusal>
+        ensures { result ≡ engine_forecast self.irq self.audio }
+    {
+        if self.in_range() {
+            Ok(self.irq.forecast())
+        } else {
+            Err(Refusal::Range)
+        }
     }
 }

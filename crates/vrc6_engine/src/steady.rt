@@ -1,28 +1,15 @@
 // The most frequent clock: of the sound it moves the timers only. The lent clock asks for it first.
-ghost use Rattle.std.specs.Prelude.{◌≡◌, ◌-◌, ◌≤◌, true, false, if◌then◌else◌};
+ghost use Rattle.std.specs.Prelude.{◌≡◌, ◌-◌, ◌≤◌, IfSome, Ok, if◌then◌else◌};
 ghost use Rattle.vrc6_engine.specs.Engine.{engine_clock, only_timers};
 
-use audio::Audio;
-use irq::VrcIrq;
+use crate::Engine;
 
-// Whether the next clock is such a clock, and where it is, the timers after it.
+// The timers of the three channels.
 #[derive(Clone, Copy)]
-pub struct Steady {
-    pub yes: bool,
-    pub timer1: u16,
-    pub timer2: u16,
-    pub timer3: u16,
-}
-
-fn unsteady() -> Steady
-    ensures { result.yes ≡ false }
-{
-    Steady {
-        yes: false,
-        timer1: 0,
-        timer2: 0,
-        timer3: 0,
-    }
+pub struct Timers {
+    pub pulse1: u16,
+    pub pulse2: u16,
+    pub saw: u16,
 }
 
 // A timer after a clock that does not start it again.
@@ -36,30 +23,35 @@ fn counted(timer: u16, enabled: bool) -> u16
     }
 }
 
-// Timers come first, so that a clock in which one runs out is known early.
-pub fn steady_timers(irq: VrcIrq, audio: Audio) -> Steady
-    ensures { result.yes ≡ true → engine_clock irq audio ≡ only_timers irq audio result.timer1 result.timer2 result.timer3 }
-{
-    let pulse1 = audio.pulse1;
-    let pulse2 = audio.pulse2;
-    let saw = audio.saw;
-    let timer1 = counted(pulse1.timer, pulse1.enabled);
-    let timer2 = counted(pulse2.timer, pulse2.enabled);
-    let timer3 = counted(saw.timer, saw.enabled);
-    if (timer1 == 0) | (timer2 == 0) | (timer3 == 0) | audio.halt {
-        return unsteady();
-    }
-    let sum = base_floats::mixed(pulse1.level(), pulse2.level(), saw.level());
-    if base_floats::same(audio.out, sum)
-        & irq.in_range()
-        & audio_channels::channels_in_range(pulse1, pulse2, saw)
+impl Engine {
+    // The timers after the next clock, if it moves nothing else of the sound. They come first, so that a clock in which one runs out
+    // is known early.
+    pub fn steady(self) -> Option<Timers>
+        ensures { IfSome result
+            (λ t. engine_clock self.irq self.audio ≡ Ok (only_timers self.irq self.audio t.pulse1 t.pulse2 t.saw)) }
     {
-        return Steady {
-            yes: true,
-            timer1,
-            timer2,
-            timer3,
-        };
+        let audio = self.audio;
+        let pulse1 = counted(audio.pulse1.timer, audio.pulse1.enabled);
+        let pulse2 = counted(audio.pulse2.timer, audio.pulse2.enabled);
+        let saw = counted(audio.saw.timer, audio.saw.enabled);
+        if (pulse1 == 0) | (pulse2 == 0) | (saw == 0) | audio.halt {
+            return None;
+        }
+        let sum = base_floats::mixed(
+            audio.pulse1.level(),
+            audio.pulse2.level(),
+            audio.saw.level(),
+        );
+        if base_floats::same(audio.out, sum)
+            & self.irq.in_range()
+            & audio_channels::channels_in_range(audio.pulse1, audio.pulse2, audio.saw)
+        {
+            return Some(Timers {
+                pulse1,
+                pulse2,
+                saw,
+            });
+        }
+        None
     }
-    unsteady()
 }

@@ -1,6 +1,6 @@
 -- What a read hands back of the byte shown. Assumes nothing.
 use mathlib.Core.Path.{◌≡◌, refl, sym, ap, ◌∙◌}
-use mathlib.Core.Bool.{Bool, true, false, cond, ◌&&◌, false≢true}
+use mathlib.Core.Bool.{Bool, true, false, cond, false≢true}
 use mathlib.Core.List.{List}
 use Prim.Native.Nat.{ℕ}
 use borrow.Author.Tests.{eqb-true}
@@ -8,32 +8,20 @@ use Rattle.base_shared.specs.Bits.{bit}
 use Rattle.base_shared.specs.Refusals.{unless}
 use Rattle.base_shared.proofs.Tests.{tested}
 use Rattle.memory_pages.specs.declared.page.Page.{Page}
-use Rattle.memory_pages.specs.declared.page.Lookup.{Lookup}
-use Rattle.memory_pages.specs.declared.page.Lookup.TheVariants.{Unmapped, Mapped}
+use Rattle.std.specs.Prelude.{Option, Some, None}
 use Rattle.memory_pages.specs.Pages.{found, is_unmapped, writable}
 use Rattle.memory_layout.specs.declared.regions.MemoryLayout.{MemoryLayout}
 use Rattle.memory_access.specs.Access.{byte_at, plain_refusal, peeked}
 use Rattle.vrc6_parts.specs.Reads.{Caller, by_cpu, by_picture, handed, peeked_by}
 
 -- without the setting a CPU read hands back the byte shown
-pub off_shows : (bus : ℕ) (l : Lookup) (shown : ℕ) → handed (by_cpu bus) false l shown ≡ shown
-off_shows bus Unmapped shown = refl
-off_shows bus (Mapped e) shown = refl
-
--- a lookup finds nothing
-abbrev pub is_nothing : Lookup → Bool
-is_nothing Unmapped = true
-is_nothing (Mapped e) = false
-
--- what a CPU read hands back, by whether nothing is there and the setting is on
-pub by_lookup : (bus shown : ℕ) (setting nothing : Bool) (l : Lookup) → nothing ≡ is_nothing l
-    → cond (nothing && setting) bus shown ≡ handed (by_cpu bus) setting l shown
-by_lookup bus shown setting nothing Unmapped e = ap (λ (n : Bool). cond (n && setting) bus shown) e
-by_lookup bus shown setting nothing (Mapped p) e = ap (λ (n : Bool). cond (n && setting) bus shown) e
+pub off_shows : (bus : ℕ) (l : Option Page) (shown : ℕ) → handed (by_cpu bus) false l shown ≡ shown
+off_shows bus None shown = refl
+off_shows bus (Some e) shown = refl
 
 -- where a page is there, every read hands back the byte shown
 pub mapped_shows : (k : Caller) (setting : Bool) (e : Page) (shown : ℕ) → is_unmapped e ≡ false → handed k setting (found e) shown ≡ shown
-mapped_shows (by_cpu bus) setting e shown h = ap (λ (b : Bool). handed (by_cpu bus) setting (cond b Unmapped (Mapped e)) shown) h
+mapped_shows (by_cpu bus) setting e shown h = ap (λ (b : Bool). handed (by_cpu bus) setting (cond b None (Some e)) shown) h
 mapped_shows by_picture setting e shown h = refl
 
 -- an entry that takes writes is not the unmapped one

@@ -1,5 +1,6 @@
 -- What create and a CPU write check, by the parts of a board that they look at (01, The board's calls). Assumes nothing.
-use Rattle.std.specs.Prelude.{Bool, true, ◌&&◌, ◌||◌, List, [], ◌∷◌, ◌++◌, ℕ, eqb, ltb, length, take}
+use Rattle.std.specs.Prelude.{Bool, ◌&&◌, ◌||◌, List, [], ◌∷◌, ◌++◌, ℕ, eqb, ltb, length, take}
+use Rattle.std.specs.List.{list_all}
 use Rattle.base_shared.specs.Refusals.{first_failing}
 use Rattle.memory_layout.specs.declared.regions.MemoryLayout.{MemoryLayout}
 use Rattle.memory_layout.specs.Layout.{layout_checks}
@@ -11,8 +12,7 @@ use Rattle.vrc6_engine.specs.Engine.{engine_ok}
 
 -- every byte is 0 (01, The board's calls 3)
 abbrev pub all_zero : List ℕ → Bool
-all_zero [] = true
-all_zero (x ∷ xs) = eqb x 0 && all_zero xs
+all_zero bytes = list_all (λ x. eqb x 0) bytes
 
 -- create, of a layout and its buffers: conditions 1, 2 and 4 (01, The board's calls 3; 01, The board's calls 4)
 abbrev pub creation_refusal : MemoryLayout → (fixed changing : List ℕ) → ℕ

@@ -1,10 +1,12 @@
 -- What the functions inside a CPU write say: its byte by the parts of a board that are checked, and the part of the board that its register belongs to.
 -- No call's contract cites them. Assumes nothing.
-use Rattle.std.specs.Prelude.{Bool, List, ℕ, length}
+use Rattle.std.specs.Prelude.{Bool, List, ℕ, length, Option, Some, None}
 use Rattle.base_shared.specs.Refusals.{unless}
 use Rattle.memory_pages.specs.declared.page.Page.{Page}
 use Rattle.memory_layout.specs.declared.regions.MemoryLayout.{MemoryLayout}
 use Rattle.memory_access.specs.Access.{access_refusal, stored}
+use Rattle.vrc6_parts.specs.declared.writes.Part.{Part}
+use Rattle.vrc6_parts.specs.declared.writes.Part.TheVariants.{Banks, Sound, Interrupt}
 use Rattle.registers.specs.declared.Register.{Register}
 use Rattle.registers.specs.declared.Register.TheVariants.{Nothing, OfBank, OfAudio, OfIrq}
 
@@ -13,9 +15,9 @@ abbrev pub byte_left : MemoryLayout → Page → (others : Bool) → (fixed chan
 byte_left l e others fixed changing address byte =
     unless (access_refusal l e (length fixed) (length changing) others) (stored (length fixed) e changing address byte) changing
 
--- the part of the board that a register belongs to: 0 for none, 1 for the banks, 2 for the sound, 3 for the interrupt (01, Banks and decode 1)
-abbrev pub part_of : Register → ℕ
-part_of Nothing = 0
-part_of (OfBank _) = 1
-part_of (OfAudio _) = 2
-part_of (OfIrq _) = 3
+-- the part of the board that a register belongs to, if to any (01, Banks and decode 1)
+abbrev pub part_of : Register → Option Part
+part_of Nothing = None
+part_of (OfBank _) = Some Banks
+part_of (OfAudio _) = Some Sound
+part_of (OfIrq _) = Some Interrupt

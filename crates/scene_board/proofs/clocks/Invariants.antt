@@ -1,15 +1,8 @@
 -- `clocks` meets its contract. Assumes nothing.
-use mathlib.Core.Path.{◌≡◌}
-use Prim.Native.Nat.{◌-◌}
-use lib.ListN.{length}
 use Rattle.vrc6.specs.Boards.{held_by}
 use Rattle.vrc6_calls.specs.declared.Call.TheVariants.{Clock}
 use Rattle.scene_board.proofs.After.{Times}
 use Rattle.scene_board.proofs.clocks.Given as goal
 
 abbrev pub invariant-loop-i : goal.invariant-loop-i
-invariant-loop-i l =
-    (length l.changing ≡ length l.initial.changing) × Times l.n Clock (held_by l.initial.board l.fixed l.initial.changing) (held_by l.board l.fixed l.changing) l.i
-
-abbrev pub decreases-loop-i : goal.decreases-loop-i
-decreases-loop-i l = l.n - l.i
+invariant-loop-i l = Times Clock (held_by l.initial.board l.fixed l.initial.changing) (held_by l.board l.fixed l.changing) l.i

@@ -1,14 +1,7 @@
 -- `play` meets its contract. Assumes nothing.
-use mathlib.Core.Path.{◌≡◌}
-use Prim.Native.Nat.{◌-◌}
-use lib.ListN.{length}
 use Rattle.vrc6.specs.Boards.{held_by}
-use Rattle.scene_board.proofs.After.{Done}
+use Rattle.scene_board.proofs.After.{Left}
 use Rattle.scene_board.proofs.play.Given as goal
 
-abbrev pub invariant-loop-i : goal.invariant-loop-i
-invariant-loop-i l =
-    (length l.changing ≡ length l.initial.changing) × Done l.codes (held_by l.initial.board l.fixed l.initial.changing) (held_by l.board l.fixed l.changing) l.i
-
-abbrev pub decreases-loop-i : goal.decreases-loop-i
-decreases-loop-i l = length l.codes - l.i
+abbrev pub invariant-loop-step : goal.invariant-loop-step
+invariant-loop-step l = Left l.steps (held_by l.initial.board l.fixed l.initial.changing) (held_by l.board l.fixed l.changing) l.step-index

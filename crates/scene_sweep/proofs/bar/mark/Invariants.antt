@@ -1,10 +1,8 @@
 -- `mark` meets its contract. Assumes nothing.
-use Rattle.std.proofs.Common.{◌≡◌, ◌+◌, ◌-◌, length}
+use Rattle.std.proofs.Common.{◌≡◌, length}
+use Rattle.scene_sweep.specs.Bars.{first_column, last_column}
 use Rattle.scene_sweep.proofs.Marking.{Raised}
 use Rattle.scene_sweep.proofs.bar.mark.Given as goal
 
 abbrev pub invariant-loop-i : goal.invariant-loop-i
-invariant-loop-i l = length l.initial.bar ≡ 64 → Raised l.initial.i l.end l.mark l.initial.bar l.bar l.i
-
-abbrev pub decreases-loop-i : goal.decreases-loop-i
-decreases-loop-i l = l.end + 1 - l.i
+invariant-loop-i l = length l.initial.bar ≡ 64 → Raised (first_column l.from l.n) (last_column l.last l.n) l.mark l.initial.bar l.bar l.i
