@@ -12,6 +12,7 @@ use std::io::{Error, ErrorKind, Print, Read, Stderr, Write};
 pub const LONGEST: usize = 524816;
 
 // Reads until the buffer is full or the file ends, and hands back how many bytes stand at the buffer's start.
+// A loop of its own: what std has for this allocates, or fails at the end of a short file.
 fn fill<F: Read>(file: &mut F, bytes: &mut [u8]) -> Result<usize, Error>
     ensures fits { IfOk result (λ n. n ≤ length bytes.new) }
     ensures first { IfOk result (λ n. Consumes (F.remaining file.old) (F.remaining file.new) (take n bytes.new)) }

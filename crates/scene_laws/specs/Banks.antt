@@ -1,5 +1,5 @@
 -- The bank that a slot of the picture side shows, by the paging rule. Assumes nothing.
-use Rattle.std.specs.Prelude.{◌≡◌, true, ℕ, ◌%◌, ◌≤◌}
+use Rattle.std.specs.Prelude.{◌≡◌, Some, true, ℕ, ◌%◌, ◌≤◌}
 use Rattle.memory_layout.specs.declared.regions.MemoryLayout.{MemoryLayout}
 use Rattle.memory_layout.specs.declared.regions.Src.TheVariants.{Chr}
 use Rattle.memory_layout.specs.Layout.{region, within_limits}
@@ -12,4 +12,4 @@ use Rattle.scene_banks.specs.Shown.{bank_shown}
 abbrev pub BankLaw : Type 0
 BankLaw =
     (l : MemoryLayout) → within_limits l ≡ true → 1 ≤ (region l Chr).len → (v : ℕ)
-    → bank_shown l (one_page (region l Chr) v) ≡ v % bank_count (region l Chr) 1024
+    → bank_shown l (one_page (region l Chr) v) ≡ Some (v % bank_count (region l Chr) 1024)

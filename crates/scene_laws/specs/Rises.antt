@@ -11,19 +11,22 @@ use Rattle.vrc6.specs.Boards.{State}
 use Rattle.vrc6_calls.specs.Lists.{next}
 use Rattle.vrc6_ledger.specs.Ledger.{Event, cpu_writes, picture_writes, clocks, resets, looks, event}
 use Rattle.vrc6_ledger.specs.Demand3.{weight}
+use Rattle.scene_steps.specs.declared.step.Step.{Step}
+use Rattle.scene_steps.specs.declared.step.Step.TheVariants.{Write, Clocks, Reset}
+use Rattle.scene_moments.specs.declared.moment.Moment.TheVariants.{Waiting}
 use Rattle.scene_board.specs.Played.{calls_of}
 use Rattle.scene_moments.specs.declared.moment.Came.{Came}
 use Rattle.scene_moments.specs.declared.moment.Came.TheVariants.{Never, On, Held, Lost}
-use Rattle.scene_moments.specs.Moments.{came, clocks_due, due_within, moment}
+use Rattle.scene_moments.specs.Moments.{came, clocks_due, due_within}
 
 -- ---- the calls
 -- the calls of k clocks, then a handler, then m clocks
-abbrev pub calls_around : (k : ℕ) → List ℕ → (m : ℕ) → List Call
-calls_around k codes m = replicate k Clock ++ (calls_of codes ++ replicate m Clock)
+abbrev pub calls_around : (k : ℕ) → List Step → (m : ℕ) → List Call
+calls_around k steps m = replicate k Clock ++ (calls_of steps ++ replicate m Clock)
 
 -- the calls of k clocks, then a handler
-abbrev pub calls_up_to : (k : ℕ) → List ℕ → List Call
-calls_up_to k codes = replicate k Clock ++ calls_of codes
+abbrev pub calls_up_to : (k : ℕ) → List Step → List Call
+calls_up_to k steps = replicate k Clock ++ calls_of steps
 
 -- an event whose byte for a register is a byte
 abbrev pub ByteEvent : Event → Type 0
@@ -36,6 +39,12 @@ ByteEvent looks = Unit {0}
 -- a call whose byte for a register is a byte
 abbrev pub OfByte : Call → Type 0
 OfByte k = ByteEvent (event k)
+
+-- a step of a handler that writes a byte, as each does
+abbrev pub ByteStep : Step → Type 0
+ByteStep (Write a v) = v ≤ 255
+ByteStep (Clocks n) = Unit {0}
+ByteStep Reset = Unit {0}
 
 -- ---- on the board
 -- the first call after which pending is set: how many clocks there are up to and with it, counted on from n
@@ -69,8 +78,8 @@ pub record Waits (q : VrcIrq) (k : ℕ) : Type 0 where
   pub not_yet : due_within k (clocks_due q) ≡ false
 
 -- what `came_after` says of a handler that runs k clocks after the counter stood so
-abbrev pub came_at : (revision_b : Bool) → VrcIrq → (k : ℕ) → List ℕ → Came
-came_at b q k codes = came b codes (moment (irq_clocked_times line_step line_length k q) k)
+abbrev pub came_at : (revision_b : Bool) → VrcIrq → (k : ℕ) → List Step → Came
+came_at b q k steps = came b steps (Waiting (irq_clocked_times line_step line_length k q) k)
 
 -- what a run of n clocks finds where the interrupt comes so: its clock, if the run gets that far
 abbrev pub RiseFound : Came → (n : ℕ) → Option ℕ → Type 0

@@ -16,10 +16,13 @@ use Rattle.scene_moments.specs.declared.moment.Moment.TheVariants.{Waiting, Pend
 use Rattle.scene_moments.specs.declared.moment.Came.{Came}
 use Rattle.scene_moments.specs.declared.moment.Came.TheVariants.{Never, On, Held, Lost}
 
--- the clocks until a counter's interrupt, none where none is due: those of the forecast, but one where it says 0, by irq_clocks'
--- `ShortForecastLaw`; `ClocksDueLaw` of scene_laws says that they are the least
+-- the clocks that a forecast means, none for never: one where it says 0, by irq_clocks' `ShortForecastLaw`
+abbrev pub due_from : Option ℕ → Option ℕ
+due_from f = option_map (λ n. max n 1) f
+
+-- the clocks until a counter's interrupt; `ClocksDueLaw` of scene_laws says that they are the least
 abbrev pub clocks_due : VrcIrq → Option ℕ
-clocks_due q = option_map (λ n. max n 1) (forecast_answer q)
+clocks_due q = due_from (forecast_answer q)
 
 -- clocks are counted in 32 bits; a sheet's menu has too few steps to fill them
 abbrev pub added : (clock n : ℕ) → ℕ

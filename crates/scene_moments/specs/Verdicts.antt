@@ -19,6 +19,14 @@ mark_of (Late line off) = mark.Late
 mark_of (Lost line) = mark.Lost
 mark_of Never = mark.Never
 
+-- the line of a verdict, none for never
+abbrev pub line_told : Verdict → Option ℕ
+line_told (Right line) = Some line
+line_told (Early line off) = Some line
+line_told (Late line off) = Some line
+line_told (Lost line) = Some line
+line_told Never = None
+
 -- the marks in their order, the worse the higher
 abbrev pub rank : Mark → ℕ
 rank mark.Right = 0

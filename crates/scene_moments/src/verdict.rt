@@ -1,6 +1,6 @@
 // What the interrupt's clock means for the window.
 ghost use Rattle.std.specs.Prelude.{◌≡◌};
-ghost use Rattle.scene_moments.specs.Verdicts.{counted_of, lost_on, mark_of, on_line, seen_as, taken_on, verdict_of};
+ghost use Rattle.scene_moments.specs.Verdicts.{counted_of, line_told, lost_on, mark_of, on_line, seen_as, taken_on, verdict_of};
 
 use crate::lines::Screen;
 use crate::moment::Came;
@@ -36,6 +36,17 @@ impl Verdict {
             Verdict::Late(..) => Mark::Late,
             Verdict::Lost(_) => Mark::Lost,
             Verdict::Never => Mark::Never,
+        }
+    }
+
+    // The interrupt's line, if it comes.
+    pub fn line(self) -> Option<u32>
+        ensures { result ≡ line_told self }
+    {
+        match self {
+            Verdict::Right(line) | Verdict::Lost(line) => Some(line),
+            Verdict::Early(line, _) | Verdict::Late(line, _) => Some(line),
+            Verdict::Never => None,
         }
     }
 }

@@ -1,37 +1,25 @@
 // The path of a file that a cell names.
 #![tactic(auto)]
 
-ghost use Rattle.std.specs.Prelude.{◌≡◌, ◌<◌, ◌++◌, length, IfNone, MatchOption, OnSome};
+ghost use Rattle.std.specs.Prelude.{◌≡◌, ◌<◌, ◌++◌, ℕ, Bool, length, IfNone, MatchOption, OnSome};
 ghost use Rattle.scene_paths.specs.Names.{is_ink, is_slash, trimmed, up_to};
 ghost use Rattle.scene_paths.specs.Paths.{folder_of, is_rooted, name_of, path_of, unquoted};
 
 use arrayvec::ArrayVec;
 use text_words::{from_first, is_blank};
 
-// A path up to its last slash, with it.
+// A text up to its last byte that a test takes, with it.
 #[tactic(auto, using(crate::proofs::Ends::kept, crate::proofs::Ends::left_out))]
-fn to_slash(path: &[u8]) -> &[u8]
-    ensures { result.now ≡ up_to is_slash path.now }
-{
-    let mut path = path;
-    while let [front @ .., last] = path {
-        if *last == b'/' {
-            break;
-        }
-        path = front;
-    }
-    path
-}
-
-// A text without the blanks at its end. It is a loop like the one above, since a test that is passed in asks more of a proof.
-#[tactic(auto, using(crate::proofs::Ends::kept, crate::proofs::Ends::left_out))]
-fn to_ink(text: &[u8]) -> &[u8]
-    ensures { result.now ≡ up_to is_ink text.now }
+fn up_to<F: Fn(u8) -> bool>(text: &[u8], takes: F) -> &[u8]
+    ghost test: { ℕ → Bool }
+    requires callable { F.IsAlwaysCallable takes }
+    requires tests { (b : ℕ) (r : Bool) → F.post takes b r → r ≡ test b }
+    ensures { result.now ≡ up_to test text.now }
 {
     let mut text = text;
     while let [front @ .., last] = text {
-        if !is_blank(*last) {
-            break;
+        if takes(*last) {
+            return text;
         }
         text = front;
     }
@@ -42,7 +30,7 @@ fn to_ink(text: &[u8]) -> &[u8]
 pub fn name_in(cell: &[u8]) -> &[u8]
     ensures { result.now ≡ trimmed cell.now }
 {
-    to_ink(from_first(cell, false))
+    up_to(from_first(cell, false), |byte| !is_blank(byte))
 }
 
 // Whether a name begins with a slash.
@@ -62,7 +50,7 @@ fn folder_of<'a>(sheet: &'a [u8], name: &[u8]) -> &'a [u8]
     if is_rooted(name) {
         return &sheet[..0];
     }
-    to_slash(sheet)
+    up_to(sheet, |byte| byte == b'/')
 }
 
 // Puts a cell's bytes behind a path, as long as there is room. In a quoted cell two quotes stand for one.

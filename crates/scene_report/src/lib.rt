@@ -3,160 +3,175 @@
 
 pub mod sweeping;
 
-use scene_moments::Verdict;
-use scene_moments::lines::{Screen, early_margin, late_margin};
-use scene_moments::verdict::{EARLY, LOST, NEVER, RIGHT, Seen};
-use scene_sweep::tally::Wrong;
-use scene_sweep::{Run, Span, Tally};
-use text_output::forms::{put_form, put_nth};
-use text_output::{Output, put, put_number, put_text};
+use scene_moments::{Mark, Screen, Seen, Verdict};
+use scene_sweep::{Run, Span, Wrong};
+use std::fmt;
+use std::fmt::{Display, Formatter};
 
-// By how many lines.
-fn put_lines(out: &mut Output, len: usize, off: u32) -> usize {
-    if off == 1 {
-        return put_text(out, len, b"one");
+// By how many lines: `one`, or the number.
+#[derive(Clone, Copy)]
+struct Lines(u32);
+
+impl Display for Lines {
+    fn fmt<W: fmt::Write>(&self, f: &mut Formatter<W>) -> fmt::Result {
+        match self.0 {
+            1 => write!(f, "one"),
+            off => write!(f, "{off}"),
+        }
     }
-    put_number(out, len, off)
 }
 
-// `ok`, or `, one late`, behind a line's number.
-fn put_off(out: &mut Output, len: usize, verdict: Verdict) -> usize {
-    if verdict.mark == RIGHT {
-        return put_text(out, len, b" ok");
+// `line 12 ok`, `line 13, one late`, `never`.
+#[derive(Clone, Copy)]
+pub struct Told(pub Verdict);
+
+impl Display for Told {
+    fn fmt<W: fmt::Write>(&self, f: &mut Formatter<W>) -> fmt::Result {
+        match self.0 {
+            Verdict::Right(line) => write!(f, "line {line} ok"),
+            Verdict::Early(line, off) => write!(f, "line {}, {} early", line, Lines(off)),
+            Verdict::Late(line, off) => write!(f, "line {}, {} late", line, Lines(off)),
+            Verdict::Lost(line) => write!(f, "line {line}, lost"),
+            Verdict::Never => write!(f, "never"),
+        }
     }
-    let a = put_text(out, len, b", ");
-    let b = put_lines(out, a, verdict.off);
-    if verdict.mark == EARLY {
-        return put_text(out, b, b" early");
-    }
-    put_text(out, b, b" late")
 }
 
-// `line 12 ok`, `line 13, one late`, `never`. One that is lost has words of its own.
-pub fn put_verdict(out: &mut Output, len: usize, verdict: Verdict) -> usize {
-    if verdict.mark == NEVER {
-        return put_text(out, len, b"never");
+// `clock 228`, `clocks 228..287`.
+#[derive(Clone, Copy)]
+struct Clocks(Span);
+
+impl Display for Clocks {
+    fn fmt<W: fmt::Write>(&self, f: &mut Formatter<W>) -> fmt::Result {
+        let Span { least, most } = self.0;
+        if least == most {
+            write!(f, "clock {least}")
+        } else {
+            write!(f, "clocks {least}..{most}")
+        }
     }
-    let a = put_text(out, len, b"line ");
-    let b = put_number(out, a, verdict.line);
-    put_off(out, b, verdict)
 }
 
-// ` clock 228`, ` clocks 228..287`.
-fn put_clocks(out: &mut Output, len: usize, clocks: Span) -> usize {
-    let numbers = [clocks.least, clocks.most];
-    if clocks.least == clocks.most {
-        return put_form(out, len, b" clock %d", &numbers);
-    }
-    put_form(out, len, b" clocks %d..%d", &numbers)
-}
+// An interrupt that the menu cleared: the clocks on which it is set and cleared.
+#[derive(Clone, Copy)]
+struct Lost(Span, Span);
 
-// An interrupt that the menu cleared.
-fn put_lost(out: &mut Output, len: usize, set: Span, cleared: Span) -> usize {
-    let a = put_text(out, len, b"set on");
-    let b = put_clocks(out, a, set);
-    let c = put_text(out, b, b" inside the menu, cleared by it on");
-    put_clocks(out, c, cleared)
+impl Display for Lost {
+    fn fmt<W: fmt::Write>(&self, f: &mut Formatter<W>) -> fmt::Result {
+        write!(
+            f,
+            "set on {} inside the menu, cleared by it on {}",
+            Clocks(self.0),
+            Clocks(self.1)
+        )
+    }
 }
 
 // What is seen of a moment.
-fn put_seen(out: &mut Output, len: usize, seen: Seen) -> usize {
-    let verdict = seen.verdict;
-    if verdict.mark == LOST {
-        let set = Span::of(seen.set);
-        let cleared = Span::of(seen.cleared);
-        return put_lost(out, len, set, cleared);
+#[derive(Clone, Copy)]
+struct Sight(Seen);
+
+impl Display for Sight {
+    fn fmt<W: fmt::Write>(&self, f: &mut Formatter<W>) -> fmt::Result {
+        match self.0 {
+            Seen {
+                verdict: Verdict::Lost(_),
+                set: Some(set),
+                cleared: Some(cleared),
+            } => write!(f, "{}", Lost(Span::of(set), Span::of(cleared))),
+            seen => write!(f, "{}", Told(seen.verdict)),
+        }
     }
-    put_verdict(out, len, verdict)
 }
 
-// How many clocks later than without the menu, with a minus for earlier.
-fn put_later(out: &mut Output, len: usize, clock: u32, alone: u32) -> usize {
-    if clock < alone {
-        let a = put(out, len, b'-');
-        return put_number(out, a, alone - clock);
+// A run of clocks, from its first to its last, in a sweep from where the writes end. Without the menu the interrupt comes on
+// clock `alone`.
+#[derive(Clone, Copy)]
+pub struct Stretch {
+    pub from: u32,
+    pub last: u32,
+    pub run: Run,
+    pub screen: Screen,
+    pub alone: u32,
+}
+
+impl Stretch {
+    // How many clocks later than without the menu, negative for earlier.
+    fn later(self, clock: u32) -> i64 {
+        i64::from(clock) - i64::from(self.alone)
     }
-    put_number(out, len, clock - alone)
-}
 
-// A run's drift, and how many clocks earlier and later would be another line.
-fn put_drift(out: &mut Output, len: usize, set: Span, screen: Screen, alone: u32) -> usize {
-    let a = put_text(out, len, b"; drift ");
-    let mut b = put_later(out, a, set.least, alone);
-    if set.least != set.most {
-        let c = put_text(out, b, b"..");
-        b = put_later(out, c, set.most, alone);
+    // A run's drift, and how many clocks earlier and later would be another line.
+    fn write_drift<W: fmt::Write>(self, f: &mut Formatter<W>, set: Span) -> fmt::Result {
+        write!(f, "; drift {}", self.later(set.least))?;
+        if set.least != set.most {
+            write!(f, "..{}", self.later(set.most))?;
+        }
+        write!(
+            f,
+            ", margin -{} +{}",
+            self.screen.early_margin(set.least),
+            self.screen.late_margin(set.most)
+        )
     }
-    let numbers = [
-        early_margin(screen, set.least),
-        late_margin(screen, set.most),
-    ];
-    put_form(out, b, b", margin -%d +%d", &numbers)
-}
 
-// What all moments of a run have.
-fn put_all(out: &mut Output, len: usize, run: Run, screen: Screen, alone: u32) -> usize {
-    let first = run.first;
-    let verdict = first.verdict;
-    if verdict.mark == LOST {
-        return put_lost(out, len, run.set, run.cleared);
+    // What all moments of a run have.
+    fn write_all<W: fmt::Write>(self, f: &mut Formatter<W>) -> fmt::Result {
+        match (self.run.first.verdict, self.run.set, self.run.cleared) {
+            (Verdict::Lost(_), Some(set), Some(cleared)) => write!(f, "{}", Lost(set, cleared)),
+            (verdict, Some(set), _) => {
+                write!(f, "{}", Told(verdict))?;
+                self.write_drift(f, set)
+            }
+            (verdict, None, _) => write!(f, "{}", Told(verdict)),
+        }
     }
-    let a = put_verdict(out, len, verdict);
-    if verdict.mark == NEVER {
-        return a;
+}
+
+// A word heads the first run; the others stand below it.
+impl Display for Stretch {
+    fn fmt<W: fmt::Write>(&self, f: &mut Formatter<W>) -> fmt::Result {
+        let head = if self.from == 0 {
+            "  clocks "
+        } else {
+            "         "
+        };
+        write!(f, "{}{}..{}: ", head, self.from, self.last)?;
+        self.write_all(f)?;
+        writeln!(f, "")
     }
-    put_drift(out, a, run.set, screen, alone)
 }
 
-// A run of clocks, from its first to its last, in a sweep from where the writes end. Without the menu the interrupt comes on clock
-// `alone`. A word heads the first run; the others stand below it.
-pub fn put_run(
-    out: &mut Output,
-    len: usize,
-    from: u32,
-    last: u32,
-    run: Run,
-    screen: Screen,
-    alone: u32,
-) -> usize {
-    let a = put_nth(out, len, b"  clocks |         ", (0 < from) as usize);
-    let numbers = [from, last];
-    let b = put_form(out, a, b"%d..%d: ", &numbers);
-    let c = put_all(out, b, run, screen, alone);
-    put(out, c, b'\n')
+// A moment that is wrong.
+#[derive(Clone, Copy)]
+struct Moment(Wrong);
+
+impl Display for Moment {
+    fn fmt<W: fmt::Write>(&self, f: &mut Formatter<W>) -> fmt::Result {
+        write!(f, "{}: {}", self.0.clock, Sight(self.0.seen))
+    }
 }
 
-fn put_moment(out: &mut Output, len: usize, name: &[u8], wrong: Wrong) -> usize {
-    let a = put_text(out, len, name);
-    let b = put_number(out, a, wrong.clock);
-    let c = put_text(out, b, b": ");
-    let d = put_seen(out, c, wrong.seen);
-    put(out, d, b'\n')
-}
-
-// The first wrong moment and the worst.
-pub fn put_worst(out: &mut Output, len: usize, tally: Tally) -> usize {
-    let a = put_moment(out, len, b"  first wrong at clock ", tally.first);
-    put_moment(out, a, b"  worst at clock ", tally.worst)
-}
-
-fn mark_of(mark: u8) -> u8 {
+fn letter_of(mark: Mark) -> &'static str {
     match mark {
-        0 => b'.',
-        1 => b'<',
-        2 => b'>',
-        3 => b'!',
-        _ => b'x',
+        Mark::Right => ".",
+        Mark::Early => "<",
+        Mark::Late => ">",
+        Mark::Lost => "!",
+        Mark::Never => "x",
     }
 }
 
 // The bar of 64 columns.
-pub fn put_bar(out: &mut Output, len: usize, bar: &[u8; 64]) -> usize {
-    let mut n = put_text(out, len, b"  [");
-    let mut i: usize = 0;
-    while i < 64 {
-        n = put(out, n, mark_of(bar[i]));
-        i += 1;
+#[derive(Clone, Copy)]
+struct Bar([Mark; 64]);
+
+impl Display for Bar {
+    fn fmt<W: fmt::Write>(&self, f: &mut Formatter<W>) -> fmt::Result {
+        write!(f, "  [")?;
+        for mark in self.0.iter() {
+            write!(f, "{}", letter_of(*mark))?;
+        }
+        write!(f, "]")
     }
-    put_text(out, n, b"]\n")
 }

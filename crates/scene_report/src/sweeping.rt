@@ -1,18 +1,22 @@
 // The menu, played at every clock from the end of the writes to the interrupt, and reported by runs of clocks with one verdict.
 ghost use Rattle.scene_sweep.specs.Swept.{SweptOf};
 
-use crate::{put_bar, put_run, put_worst};
+use crate::{Bar, Moment, Stretch};
 use irq::VrcIrq;
+use scene_moments::Mark;
+use scene_steps::Step;
 use scene_sweep::bar::{mark, unmarked};
+use scene_sweep::tally::tallied;
 use scene_sweep::{Sweep, Tally};
-use text_output::Output;
+use std::fmt;
+use std::fmt::{Display, Formatter};
+use text_output::{Output, put};
 
-// The moments that are wrong, the bar, and how many bytes the output buffer holds.
+// The moments that are wrong, if some are, and the bar.
 #[derive(Clone, Copy)]
 pub struct Swept {
-    pub tally: Tally,
-    pub bar: [u8; 64],
-    pub len: usize,
+    pub tally: Option<Tally>,
+    pub bar: [Mark; 64],
 }
 
 // Plays the menu at each clock, run by run. The counter goes on from run to run.
@@ -20,37 +24,41 @@ pub fn sweep_clocks(
     given: Sweep,
     start: VrcIrq,
     clocks: u32,
-    menu: &[u32],
+    menu: &[Step],
     out: &mut Output,
-    len: usize,
 ) -> Swept
     ensures { SweptOf given menu.now start clocks clocks result.tally result.bar }
 {
     let mut bar = unmarked();
-    let mut tally = Tally::new();
+    let mut tally = None;
     let mut irq = start;
     let mut from: u32 = 0;
-    let mut n = len;
     while from < clocks {
         let run = given.run(irq, from, clocks, menu);
-        let first = run.first;
-        let verdict = first.verdict;
-        tally = tally.add(from, run);
-        mark(&mut bar, from, run.to, clocks, verdict.mark);
-        n = put_run(out, n, from, run.to - 1, run, given.screen, clocks);
+        tally = tallied(tally, from, run);
+        let told = run.first.verdict.mark();
+        mark(&mut bar, from, run.to, clocks, told);
+        let stretch = Stretch {
+            from,
+            last: run.to - 1,
+            run,
+            screen: given.window.screen,
+            alone: clocks,
+        };
+        put!(out; "{stretch}");
         irq = run.irq;
         from = run.to;
     }
-    Swept { tally, bar, len: n }
+    Swept { tally, bar }
 }
 
-// What a sweep found, below its runs.
-pub fn put_found(out: &mut Output, swept: Swept) -> usize {
-    let tally = swept.tally;
-    let bar = swept.bar;
-    let mut n = swept.len;
-    if tally.count != 0 {
-        n = put_worst(out, n, tally);
+// What a sweep found, below its runs: the first wrong moment and the worst, and the bar.
+impl Display for Swept {
+    fn fmt<W: fmt::Write>(&self, f: &mut Formatter<W>) -> fmt::Result {
+        if let Some(tally) = self.tally {
+            writeln!(f, "  first wrong at clock {}", Moment(tally.first))?;
+            writeln!(f, "  worst at clock {}", Moment(tally.worst))?;
+        }
+        writeln!(f, "{}", Bar(self.bar))
     }
-    put_bar(out, n, &bar)
 }

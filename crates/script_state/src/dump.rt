@@ -1,119 +1,90 @@
 // The whole state of a board as five lines, and the sixteen values of the Rust's `registers`.
-use crate::numbers::{
-    CHR, COUNT, HALT, IRQ, NAMETABLES, PICTURE_PAGES, PULSE1, PULSE2, SAW, SINGLE,
-};
-use text_output::forms::put_form;
-use text_output::{Output, put_text};
+use audio_pulse::Pulse;
+use audio_saw::Saw;
+use base_floats::pattern::bits_of;
+use irq::VrcIrq;
+use memory_pages::Page;
+use text_output::{Output, put};
+use vrc6::Board;
+use vrc6_banking::banking::Banking;
 
-// Page entries.
-fn put_pages(out: &mut Output, len: usize, name: &[u8], pages: &[u32]) -> usize {
-    let mut n = put_text(out, len, name);
-    let mut i: usize = 0;
-    while i < pages.len() {
-        let page = [pages[i]];
-        n = put_form(out, n, b" %x", &page);
-        i += 1;
+fn put_pages(out: &mut Output, name: &str, pages: &[Page]) {
+    put!(out; "{name}");
+    for page in pages {
+        put!(out; " {:x}", u32::from(*page));
     }
-    put_text(out, n, b"\n")
+    out.put(b'\n');
 }
 
-// The letter of a revision.
-fn letter(revision_b: u32) -> u32 {
-    if revision_b == 0 {
-        return 65;
+fn put_bytes(out: &mut Output, bytes: &[u8]) {
+    for byte in bytes {
+        put!(out; " {:02x}", *byte);
     }
-    66
 }
 
-// In the dump's order: revision, mode, PRG numbers, CHR bytes, mirroring, nametable numbers.
-fn banking_shown(n: [u32; COUNT]) -> [u32; 17] {
-    [
-        letter(n[SINGLE + 4]),
-        n[SINGLE],
-        n[SINGLE + 1],
-        n[SINGLE + 2],
-        n[CHR],
-        n[CHR + 1],
-        n[CHR + 2],
-        n[CHR + 3],
-        n[CHR + 4],
-        n[CHR + 5],
-        n[CHR + 6],
-        n[CHR + 7],
-        n[SINGLE + 3],
-        n[NAMETABLES],
-        n[NAMETABLES + 1],
-        n[NAMETABLES + 2],
-        n[NAMETABLES + 3],
-    ]
+fn put_banking(out: &mut Output, banking: &Banking) {
+    let revision = if banking.revision_b { 'B' } else { 'A' };
+    let [prg16, prg8] = banking.prg_banks;
+    put!(out; "DB {revision} {:02x} {prg16:x} {prg8:x}", banking.banking_mode);
+    put_bytes(out, &banking.chr);
+    put!(out; " {}", banking.mirroring);
+    put_bytes(out, &banking.nt_banks);
+    out.put(b'\n');
 }
 
-// In the dump's order: the saw, then halt and the sum.
-fn saw_shown(n: [u32; COUNT]) -> [u32; 9] {
-    [
-        n[SAW],
-        n[SAW + 8],
-        n[SAW + 9],
-        n[SAW + 4],
-        n[SAW + 5],
-        n[SAW + 6],
-        n[SAW + 7],
-        n[HALT],
-        n[HALT + 1],
-    ]
+fn put_flag(out: &mut Output, flag: bool) {
+    put!(out; " {}", u8::from(flag));
 }
 
-fn put_sound(out: &mut Output, len: usize, numbers: [u32; COUNT]) -> usize {
-    let saw = saw_shown(numbers);
-    let form = b" / %d %d %d %d %d %d %d %d";
-    let a = put_text(out, len, b"DA");
-    let b = put_form(out, a, form, &numbers[PULSE1..PULSE1 + 8]);
-    let c = put_form(out, b, form, &numbers[PULSE2..PULSE2 + 8]);
-    put_form(out, c, b" / %d %d %d %d %d %d %d / %d %w\n", &saw)
+fn put_irq(out: &mut Output, irq: &VrcIrq) {
+    put!(out; "DI {} {} {}", irq.reload, irq.counter, irq.prescalar_counter);
+    for flag in [
+        irq.irq_pending,
+        irq.enabled,
+        irq.enabled_after_ack,
+        irq.cycle_mode,
+    ] {
+        put_flag(out, flag);
+    }
+    out.put(b'\n');
 }
 
-pub fn dump(out: &mut Output, len: usize, numbers: [u32; COUNT]) -> usize {
-    let banking = banking_shown(numbers);
-    let a = put_pages(out, len, b"DP", &numbers[0..PICTURE_PAGES]);
-    let b = put_pages(out, a, b"DC", &numbers[PICTURE_PAGES..CHR]);
-    let c = put_form(
-        out,
-        b,
-        b"DB %c %b %x %x %b %b %b %b %b %b %b %b %d %b %b %b %b\n",
-        &banking,
-    );
-    let d = put_form(out, c, b"DI %d %d %d %d %d %d %d\n", &numbers[IRQ..HALT]);
-    put_sound(out, d, numbers)
+fn put_pulse(out: &mut Output, pulse: &Pulse) {
+    put!(out; " / {} {} {}", u8::from(pulse.enabled), pulse.volume, pulse.duty_cycle);
+    put_flag(out, pulse.ignore_duty);
+    put!(out; " {} {} {} {}", pulse.frequency, pulse.timer, pulse.step, pulse.freq_shift);
+}
+
+fn put_saw(out: &mut Output, saw: &Saw) {
+    put!(out; " / {} {} {}", u8::from(saw.enabled), saw.accum, saw.accum_rate);
+    put!(out; " {} {} {} {}", saw.frequency, saw.timer, saw.step, saw.freq_shift);
+}
+
+pub fn dump(out: &mut Output, board: &Board) {
+    put_pages(out, "DP", &board.prg_pages);
+    put_pages(out, "DC", &board.chr_pages);
+    put_banking(out, &board.banking);
+    put_irq(out, &board.irq);
+    let audio = &board.audio;
+    put!(out; "DA");
+    put_pulse(out, &audio.pulse1);
+    put_pulse(out, &audio.pulse2);
+    put_saw(out, &audio.saw);
+    put!(out; " / {} {:08x}\n", u8::from(audio.halt), bits_of(audio.out));
 }
 
 // In the order of `registers`: mode, PRG numbers, CHR bytes, reload, counter, enabled, pending, cycle mode.
-fn registers_shown(n: [u32; COUNT]) -> [u32; 16] {
-    [
-        n[SINGLE],
-        n[SINGLE + 1],
-        n[SINGLE + 2],
-        n[CHR],
-        n[CHR + 1],
-        n[CHR + 2],
-        n[CHR + 3],
-        n[CHR + 4],
-        n[CHR + 5],
-        n[CHR + 6],
-        n[CHR + 7],
-        n[IRQ],
-        n[IRQ + 1],
-        n[IRQ + 4],
-        n[IRQ + 3],
-        n[IRQ + 6],
-    ]
-}
-
-pub fn put_registers(out: &mut Output, len: usize, numbers: [u32; COUNT]) -> usize {
-    let shown = registers_shown(numbers);
-    put_form(
-        out,
-        len,
-        b"G %d %d %d %d %d %d %d %d %d %d %d %d %d %d %d %d\n",
-        &shown,
-    )
+pub fn put_registers(out: &mut Output, board: &Board) {
+    let banking = &board.banking;
+    let irq = &board.irq;
+    let [prg16, prg8] = banking.prg_banks;
+    put!(out; "G {} {prg16} {prg8}", banking.banking_mode);
+    for byte in &banking.chr {
+        put!(out; " {}", *byte);
+    }
+    put!(out; " {} {}", irq.reload, irq.counter);
+    for flag in [irq.enabled, irq.irq_pending, irq.cycle_mode] {
+        put_flag(out, flag);
+    }
+    out.put(b'\n');
 }

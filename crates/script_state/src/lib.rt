@@ -1,8 +1,7 @@
-// What scripts ask and print of a board: its numbers, values by their names' places, what a call answered, the dump.
+// What scripts ask and print of a board: values by their names, what a call answered, the dump.
 #![tactic(auto)]
 
-pub mod board;
+pub mod channels;
 pub mod dump;
-pub mod numbers;
-pub mod places;
 pub mod told;
+pub mod values;

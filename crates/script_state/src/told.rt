@@ -1,34 +1,62 @@
-// What a call answered, in numbers, and the line that shows it.
+// What a call answered, and the line that shows it.
 use audio::Level;
 use base_floats::pattern::bits_of;
+use base_shared::Refusal;
 use script_lines::arguments::NONE;
-use script_lines::values;
-use text_output::forms::{put_form, put_nth_form};
+use script_lines::names::CallName;
+use script_lines::values::AnswerValue;
 use text_output::{Output, put};
-use vrc6::board::Forecast;
 use vrc6_calls::Answer;
 
-// The last call's answer; 0 where it says nothing of it.
+// Many clocks: how many ticked, the first and the last that did, the first after which pending is set, how many left a sum above 0,
+// and the hash of the levels. A clock is counted from 1, and 0 is none.
 #[derive(Clone, Copy)]
-pub struct Told {
-    pub refusal: u8,
-    pub byte: u8,
-    // Of clocks: how many ticked, the first and the last that did, the first after which pending is set, how many left a sum
-    // above 0, and the hash of the levels.
+pub struct Clocks {
     pub ticks: u32,
     pub first: u32,
     pub last: u32,
     pub interrupt: u32,
     pub sounding: u32,
     pub hash: u32,
-    // Silent 1, Held 2, Playing 3.
-    pub level: u32,
-    pub bits: u32,
-    pub forecast: u32,
-    // Of a page view: its address, length and hash.
-    pub view_at: u16,
-    pub view_length: u32,
-    pub view_hash: u32,
+}
+
+// A page view: its address, length and hash.
+#[derive(Clone, Copy)]
+pub struct View {
+    pub addr: u16,
+    pub length: u32,
+    pub hash: u32,
+}
+
+#[derive(Clone, Copy)]
+pub enum Said {
+    Nothing,
+    Byte(u8),
+    Clocks(Clocks),
+    // A level's name, by its number in a script, and its bits.
+    Level(LevelName, u32),
+    Forecast(Option<u32>),
+    View(View),
+}
+
+#[derive(Clone, Copy)]
+pub enum LevelName {
+    Silent = 1,
+    Held = 2,
+    Playing = 3,
+}
+
+// What the last call answered: its refusal's number, 0 for none, and what else it said.
+#[derive(Clone, Copy)]
+pub struct Told {
+    pub refusal: u8,
+    pub said: Said,
+}
+
+impl Said {
+    fn of_level(name: LevelName, x: f32) -> Said {
+        Said::Level(name, bits_of(x))
+    }
 }
 
 impl Told {
@@ -36,144 +64,126 @@ impl Told {
     pub fn number(refusal: u8) -> Told {
         Told {
             refusal,
-            byte: 0,
-            ticks: 0,
-            first: 0,
-            last: 0,
-            interrupt: 0,
-            sounding: 0,
-            hash: 0,
-            level: 0,
-            bits: 0,
-            forecast: 0,
-            view_at: 0,
-            view_length: 0,
-            view_hash: 0,
+            said: Said::Nothing,
         }
     }
 
-    fn of_byte(byte: u8, refusal: u8) -> Told {
-        let mut told = Told::number(refusal);
-        told.byte = byte;
-        told
+    fn refused(refusal: Refusal) -> Told {
+        Told::number(u8::from(refusal))
     }
 
-    fn of_named(level: u32, x: f32) -> Told {
-        let mut told = Told::number(0);
-        told.level = level;
-        told.bits = bits_of(x);
-        told
+    pub fn said(said: Said) -> Told {
+        Told { refusal: 0, said }
     }
 
     fn of_level(level: Level) -> Told {
         match level {
-            Level::Silent(x) => Told::of_named(1, x),
-            Level::Held(x) => Told::of_named(2, x),
-            Level::Playing(x) => Told::of_named(3, x),
-            Level::Refused(n) => Told::number(n),
+            Level::Silent(x) => Told::said(Said::of_level(LevelName::Silent, x)),
+            Level::Held(x) => Told::said(Said::of_level(LevelName::Held, x)),
+            Level::Playing(x) => Told::said(Said::of_level(LevelName::Playing, x)),
+            Level::Refused(refusal) => Told::refused(refusal),
         }
     }
 
-    fn of_clocks(clocks: u32) -> Told {
-        let mut told = Told::number(0);
-        told.forecast = clocks;
-        told
-    }
-
-    fn of_forecast(forecast: Forecast) -> Told {
+    fn of_forecast(forecast: Result<Option<u32>, Refusal>) -> Told {
         match forecast {
-            Forecast::None => Told::of_clocks(NONE),
-            Forecast::In(clocks) => Told::of_clocks(clocks),
-            Forecast::Refused(n) => Told::number(n),
+            Ok(clocks) => Told::said(Said::Forecast(clocks)),
+            Err(refusal) => Told::refused(refusal),
         }
     }
 
     pub fn of(answer: Answer) -> Told {
         match answer {
-            Answer::Byte(byte, n) => Told::of_byte(byte, n),
-            Answer::Done(n) | Answer::Tick(_, n) => Told::number(n),
+            Answer::Byte(byte, refusal) => Told {
+                refusal,
+                said: Said::Byte(byte),
+            },
+            Answer::Done(n) | Answer::Tick(_, n) | Answer::View(n) => Told::number(n),
             Answer::OfLevel(level) => Told::of_level(level),
             Answer::OfForecast(forecast) => Told::of_forecast(forecast),
-            Answer::View(n) => Told::number(n),
         }
     }
 
     // Whether a call told no byte, tick, level, forecast or view.
-    pub fn is_mute(self) -> bool {
-        (self.byte == 0)
-            & (self.ticks == 0)
-            & (self.level == 0)
-            & (self.forecast == 0)
-            & (self.view_length == 0)
+    pub fn is_mute(&self) -> bool {
+        match self.said {
+            Said::Nothing => true,
+            Said::Byte(byte) => byte == 0,
+            Said::Clocks(clocks) => clocks.ticks == 0,
+            Said::Level(..) => false,
+            Said::Forecast(clocks) => clocks == Some(0),
+            Said::View(view) => view.length == 0,
+        }
     }
 
-    // From `view-length` to `forecast`, by the place of its name.
-    pub fn value(self, what: u32) -> u32 {
-        match what {
-            values::VIEW_LENGTH => self.view_length,
-            values::REFUSAL => self.refusal as u32,
-            values::BYTE => self.byte as u32,
-            values::TICKS => self.ticks,
-            values::FIRST_TICK => self.first,
-            values::LAST_TICK => self.last,
-            values::INTERRUPT => self.interrupt,
-            values::SOUNDING => self.sounding,
-            values::LEVEL => self.level,
-            values::LEVEL_BITS => self.bits,
-            _ => self.forecast,
+    // 0 where the call says nothing of a value.
+    pub fn value(&self, name: AnswerValue) -> u32 {
+        match (name, self.said) {
+            (AnswerValue::Refusal, _) => u32::from(self.refusal),
+            (AnswerValue::ViewLength, Said::View(view)) => view.length,
+            (AnswerValue::Byte, Said::Byte(byte)) => u32::from(byte),
+            (AnswerValue::Ticks, Said::Clocks(clocks)) => clocks.ticks,
+            (AnswerValue::FirstTick, Said::Clocks(clocks)) => clocks.first,
+            (AnswerValue::LastTick, Said::Clocks(clocks)) => clocks.last,
+            (AnswerValue::Interrupt, Said::Clocks(clocks)) => clocks.interrupt,
+            (AnswerValue::Sounding, Said::Clocks(clocks)) => clocks.sounding,
+            (AnswerValue::Level, Said::Level(name, _)) => name as u32,
+            (AnswerValue::LevelBits, Said::Level(_, bits)) => bits,
+            (AnswerValue::Forecast, Said::Forecast(clocks)) => clocks.unwrap_or(NONE),
+            _ => 0,
         }
     }
 }
 
-// The forms of answers; a level has one for each name, and no forecast one of its own.
-const SILENT: usize = 6;
-
-const NO_FORECAST: usize = 10;
-
-const READ_BUS: usize = 11;
-
-const CLOCKS: usize = 12;
-
-// Which form answers a call, by the place of its name.
-fn form_of(what: u8, told: Told) -> usize {
-    match what / 2 {
-        6 => SILENT + (told.level as usize + 2) % 3,
-        7 => {
-            if told.forecast == NONE {
-                return NO_FORECAST;
-            }
-            NO_FORECAST - 1
-        }
-        8 => READ_BUS,
-        9 => CLOCKS,
-        _ => (what / 2) as usize,
+fn put_said(out: &mut Output, said: Said) {
+    match said {
+        Said::Byte(byte) => put!(out; " {byte:02x}"),
+        Said::Level(LevelName::Silent, bits) => put!(out; " {bits:08x} Silent"),
+        Said::Level(LevelName::Held, bits) => put!(out; " {bits:08x} Held"),
+        Said::Level(LevelName::Playing, bits) => put!(out; " {bits:08x} Playing"),
+        Said::Forecast(Some(clocks)) => put!(out; " {clocks}"),
+        Said::Forecast(None) => put!(out; " none"),
+        Said::View(view) => put!(out; " {:08x}", view.hash),
+        _ => {}
     }
 }
 
-// The numbers of an answer; pending as it is behind the call.
-fn numbers_told(what: u8, told: Told, pending: u32) -> [u32; 5] {
-    match what / 2 {
-        4 => [told.view_hash, 0, 0, 0, 0],
-        6 => [told.bits, 0, 0, 0, 0],
-        7 => [told.forecast, 0, 0, 0, 0],
-        9 => [told.ticks, told.first, told.last, pending, told.hash],
-        _ => [told.byte as u32, 0, 0, 0, 0],
+fn letter(name: CallName) -> u8 {
+    match name {
+        CallName::Read => b'R',
+        CallName::Write => b'W',
+        CallName::PictureRead => b'P',
+        CallName::PictureWrite => b'Q',
+        CallName::View => b'V',
+        CallName::Reset => b'Z',
+        CallName::Level => b'L',
+        CallName::Forecast => b'F',
+        CallName::ReadBus => b'B',
     }
 }
 
-// A call's answer, by the place of its name.
-pub fn put_answer(out: &mut Output, len: usize, what: u8, told: Told, pending: u32) -> usize {
+pub fn put_refused(out: &mut Output, refusal: u8) {
+    put!(out; "refused {refusal}\n");
+}
+
+// A call's answer: its letter and what it said.
+pub fn put_answer(out: &mut Output, name: CallName, told: Told) {
     if told.refusal != 0 {
-        let refusal = [told.refusal as u32];
-        return put_form(out, len, b"refused %d\n", &refusal);
+        put_refused(out, told.refusal);
+        return;
     }
-    let numbers = numbers_told(what, told, pending);
-    let a = put_nth_form(
-        out,
-        len,
-        b"R %b|W|P %b|Q|V %w|Z|L %w Silent|L %w Held|L %w Playing|F %d|F none|B %b|C %d %d %d %d %w",
-        form_of(what, told),
-        &numbers,
-    );
-    put(out, a, b'\n')
+    out.put(letter(name));
+    put_said(out, told.said);
+    out.put(b'\n');
+}
+
+// The answer of clocks; pending as it is behind them.
+pub fn put_clocks(out: &mut Output, told: Told, pending: bool) {
+    match told.said {
+        Said::Clocks(clocks) => {
+            put!(out; "C {} {} {}", clocks.ticks, clocks.first, clocks.last);
+            put!(out; " {} {:08x}\n", u8::from(pending), clocks.hash);
+        }
+        _ => put_refused(out, told.refusal),
+    }
 }

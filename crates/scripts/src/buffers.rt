@@ -1,116 +1,156 @@
-// The two buffers: how many of their bytes are lent, and what lines put into them.
-ghost use Rattle.std.specs.Prelude.{◌≤◌, length};
+// The two buffers, and how many of their bytes are lent.
+ghost use Rattle.std.specs.Prelude.{◌≤◌};
 
-use crate::calls::layout_of;
-use crate::session::Lent;
+use memory_layout::MemoryLayout;
 use script_bytes::fill::fill;
 use script_bytes::fnv::{FNV_START, fnv};
-use script_lines::{Line, kinds, values};
+use script_lines::line::Bytes;
+use script_lines::values::Buffer;
+use vrc6::Board;
+use vrc6::board::Created;
+use vrc6_banking::banking::Settings;
+use vrc6_calls::{Call, Stepped, step};
 
-// The largest lengths that a layout can ask.
-pub const FIXED: usize = 525312;
+// The largest lengths that a layout can ask. A board uses the first bytes of both.
+const FIXED: usize = 525312;
 
-pub const CHANGING: usize = 274432;
+const CHANGING: usize = 274432;
 
-// A length that a buffer has, or all of it.
-pub fn within(n: usize, bytes: &[u8]) -> usize
-    ensures { result ≤ length bytes.now }
-{
-    if n <= bytes.len() {
-        return n;
-    }
-    bytes.len()
+// How many bytes are lent.
+#[derive(Clone, Copy)]
+struct Lent {
+    fixed: usize,
+    changing: usize,
+    ghost fixed_room: { fixed ≤ 525312 },
+    ghost changing_room: { changing ≤ 274432 },
 }
 
-// The hash of the lent bytes of a buffer.
-pub fn lent_hash(bytes: &[u8], lent: usize) -> u32 {
-    let n = within(lent, bytes);
-    fnv(FNV_START, &bytes[0..n])
+#[derive(Drop)]
+pub struct Buffers {
+    fixed: [u8; FIXED],
+    changing: [u8; CHANGING],
+    lent: Lent,
 }
 
-// How many bytes there are to lend; 0 is the fixed buffer.
-pub fn room_of(buffer: u32) -> usize {
-    if buffer == 0 {
-        return FIXED;
-    }
-    CHANGING
-}
+impl Lent {
+    const NONE: Lent = Lent {
+        fixed: 0,
+        changing: 0,
+    };
 
-// `lend`, of no more bytes than there are.
-fn lend(mut lent: Lent, buffer: u32, length: u32) -> Lent {
-    if buffer == 0 {
-        lent.fixed = length as usize;
-        return lent;
-    }
-    lent.changing = length as usize;
-    lent
-}
-
-// How many bytes are lent from a line on.
-pub fn lent_by(lent: Lent, line: Line) -> Lent {
-    let what = line.what;
-    if (what == kinds::FILLED) | (what == kinds::LAYOUT_S) {
-        return Lent::of(layout_of(line));
-    }
-    if what == kinds::LEND {
-        return lend(lent, line.a, line.b);
-    }
-    lent
-}
-
-fn clear(bytes: &mut [u8]) {
-    let mut i: usize = 0;
-    while i < bytes.len() {
-        bytes[i] = 0;
-        i += 1;
+    // The lengths of a layout's buffers. One above its limits gets no bytes, and create refuses it.
+    fn of(layout: MemoryLayout) -> Lent {
+        match layout.limited() {
+            Some(limited) => Lent {
+                fixed: limited.fixed_length() as usize,
+                changing: limited.changing_length() as usize,
+            },
+            None => Lent::NONE,
+        }
     }
 }
 
-// Fills both buffers, but for the page of zeros.
-fn fill_both(fixed: &mut [u8], changing: &mut [u8], seed: u32) {
-    let n = fixed.len();
-    if n < 1024 {
-        return;
+impl Buffers {
+    pub fn new() -> Buffers {
+        Buffers {
+            fixed: [0; FIXED],
+            changing: [0; CHANGING],
+            lent: Lent::NONE,
+        }
     }
-    clear(&mut fixed[0..1024]);
-    fill(&mut fixed[1024..], 1024, seed);
-    fill(changing, (n % 0x1_0000_0000) as u32, seed);
-}
 
-// Puts a byte into a buffer, if it reaches so far.
-fn poke_byte(bytes: &mut [u8], at: u32, number: u32) {
-    let i = at as usize;
-    if i < bytes.len() {
-        bytes[i] = (number % 256) as u8;
+    // The lent bytes of a buffer.
+    pub fn lent(&self, buffer: Buffer) -> &[u8] {
+        match buffer {
+            Buffer::Fixed => &self.fixed[..self.lent.fixed],
+            Buffer::Changing => &self.changing[..self.lent.changing],
+        }
     }
-}
 
-// What a line puts into the lent bytes, if anything.
-fn set_bytes(fixed: &mut [u8], changing: &mut [u8], line: Line) {
-    if line.what == kinds::FILLED {
-        fill_both(fixed, changing, line.h);
-        return;
+    fn lent_mut(&mut self, buffer: Buffer) -> &mut [u8] {
+        let lent = self.lent;
+        match buffer {
+            Buffer::Fixed => &mut self.fixed[..lent.fixed],
+            Buffer::Changing => &mut self.changing[..lent.changing],
+        }
     }
-    if line.what == kinds::LAYOUT_S {
-        clear(fixed);
-        clear(changing);
-        return;
-    }
-    if line.what != kinds::POKE {
-        return;
-    }
-    if line.a == values::FIXED {
-        poke_byte(fixed, line.b, line.c);
-        return;
-    }
-    if line.a == values::CHANGING {
-        poke_byte(changing, line.b, line.c);
-    }
-}
 
-// The same of both buffers, whole.
-pub fn set_lent(lent: Lent, fixed: &mut [u8], changing: &mut [u8], line: Line) {
-    let n = within(lent.fixed, fixed);
-    let m = within(lent.changing, changing);
-    set_bytes(&mut fixed[0..n], &mut changing[0..m], line);
+    // Lends so many bytes from here on. Whether there are as many.
+    pub fn lend(&mut self, buffer: Buffer, length: u32) -> bool {
+        let n = length as usize;
+        match buffer {
+            Buffer::Fixed if n <= FIXED => self.lent.fixed = n,
+            Buffer::Changing if n <= CHANGING => self.lent.changing = n,
+            _ => return false,
+        }
+        true
+    }
+
+    // Lends what a layout asks.
+    pub fn lend_layout(&mut self, layout: MemoryLayout) {
+        self.lent = Lent::of(layout);
+    }
+
+    // Fills the lent bytes, but for the page of zeros.
+    fn fill(&mut self, seed: u32) {
+        let fixed = self.lent_mut(Buffer::Fixed);
+        let n = fixed.len();
+        if n < 1024 {
+            return;
+        }
+        fixed[..1024].fill(0);
+        fill(&mut fixed[1024..], 1024, seed);
+        fill(
+            self.lent_mut(Buffer::Changing),
+            (n % 0x1_0000_0000) as u32,
+            seed,
+        );
+    }
+
+    // What the lent bytes are when a board is created.
+    pub fn set(&mut self, bytes: Bytes) {
+        match bytes {
+            Bytes::Zeros => {
+                self.lent_mut(Buffer::Fixed).fill(0);
+                self.lent_mut(Buffer::Changing).fill(0);
+            }
+            Bytes::Filled(seed) => self.fill(seed),
+            Bytes::Kept => {}
+        }
+    }
+
+    // Puts a byte into a buffer, if it reaches so far; of a number its low bits.
+    pub fn poke(&mut self, buffer: Buffer, at: u32, n: u32) {
+        if let Some(byte) = self.lent_mut(buffer).get_mut(at as usize) {
+            *byte = (n % 256) as u8;
+        }
+    }
+
+    pub fn hash(&self, buffer: Buffer) -> u32 {
+        fnv(FNV_START, self.lent(buffer))
+    }
+
+    pub fn create(&self, layout: MemoryLayout, settings: Settings) -> Created {
+        Board::create(
+            layout,
+            settings,
+            self.lent(Buffer::Fixed),
+            self.lent(Buffer::Changing),
+        )
+    }
+
+    pub fn step(&mut self, board: Board, call: Call) -> Stepped {
+        let changing: &mut [u8] = &mut self.changing;
+        step(
+            board,
+            &self.fixed[..self.lent.fixed],
+            &mut changing[..self.lent.changing],
+            call,
+        )
+    }
+
+    // The bytes of a page view, which the call itself lends back.
+    pub fn view(&self, board: Board, addr: u16) -> &[u8] {
+        board.page_view(self.lent(Buffer::Fixed), self.lent(Buffer::Changing), addr)
+    }
 }

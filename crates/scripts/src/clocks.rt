@@ -2,61 +2,50 @@
 use audio::Audio;
 use base_floats::pattern::bits_of;
 use script_bytes::fnv::{FNV_START, fnv_word};
-use script_state::numbers::flag;
-use script_state::told::Told;
+use script_state::told::{Clocks, Said, Told};
 use vrc6::Board;
 
-// The board after clocks, and what they told.
-#[derive(Clone, Copy)]
-pub struct Clocks {
-    pub board: Board,
-    pub told: Told,
-}
-
-fn pick(b: bool, x: u32, y: u32) -> u32 {
-    if b {
-        return x;
+// Clock number k, from 1, with what it left.
+fn count(clocks: &mut Clocks, k: u32, ticked: bool, pending: bool, audio: Audio) {
+    if ticked {
+        if clocks.ticks == 0 {
+            clocks.first = k;
+        }
+        clocks.ticks = clocks.ticks.wrapping_add(1);
+        clocks.last = k;
     }
-    y
+    if pending & (clocks.interrupt == 0) {
+        clocks.interrupt = k;
+    }
+    if audio.out > 0.0 {
+        clocks.sounding = clocks.sounding.wrapping_add(1);
+    }
+    clocks.hash = fnv_word(clocks.hash, bits_of(audio.output()));
 }
 
-// One more if b.
-fn counted(n: u32, b: bool) -> u32 {
-    std::num::wrapping_add_u32(n, flag(b))
-}
-
-// What is told behind clock number k, if that ticked and left pending, a sum and a level.
-fn with_clock(told: Told, k: u32, ticked: bool, pending: bool, audio: Audio) -> Told {
-    let mut next = told;
-    next.ticks = counted(told.ticks, ticked);
-    next.first = pick(ticked & (told.ticks == 0), k, told.first);
-    next.last = pick(ticked, k, told.last);
-    next.interrupt = pick(pending & (told.interrupt == 0), k, told.interrupt);
-    next.sounding = counted(told.sounding, audio.out > 0.0);
-    next.hash = fnv_word(told.hash, bits_of(audio.output()));
-    next
-}
-
-// n clocks. Where one is refused all are: a refused clock leaves the board.
-pub fn clock_times(given: Board, n: u32) -> Clocks {
-    let mut board = given;
-    let mut told = Told::number(0);
-    told.hash = FNV_START;
-    let mut refusal: u8 = 0;
-    let mut k: u32 = 0;
-    while k < n {
-        k += 1;
+// n clocks, and what they told. Where one is refused all are: a refused clock leaves the board.
+pub fn clock_times(board: &mut Board, n: u32) -> Told {
+    let mut clocks = Clocks {
+        ticks: 0,
+        first: 0,
+        last: 0,
+        interrupt: 0,
+        sounding: 0,
+        hash: FNV_START,
+    };
+    for k in 1..=n {
         let clocked = board.clock();
-        board = clocked.board;
-        let irq = board.irq;
-        told = with_clock(told, k, clocked.ticked, irq.irq_pending, board.audio);
-        refusal = clocked.refusal;
+        if clocked.refusal != 0 {
+            return Told::number(clocked.refusal);
+        }
+        *board = clocked.board;
+        count(
+            &mut clocks,
+            k,
+            clocked.ticked,
+            board.irq.irq_pending,
+            board.audio,
+        );
     }
-    if refusal == 0 {
-        return Clocks { board, told };
-    }
-    Clocks {
-        board,
-        told: Told::number(refusal),
-    }
+    Told::said(Said::Clocks(clocks))
 }

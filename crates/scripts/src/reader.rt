@@ -1,119 +1,74 @@
-// The lines of an input, one after the other.
-use std::io::Read;
-use text_output::ROOM;
-use text_output::forms::until;
+// The lines of a file, one after the other.
+ghost use Rattle.std.specs.Prelude.{◌≤◌};
 
-// The bytes of the input that are held, where the next line begins among them, where the last one taken lies, whether there was none,
-// and whether it is longer than what can be held.
-#[derive(Clone, Copy)]
+use crate::error::ScriptError;
+use std::io::Read;
+
+// A line that fills the buffer is too long.
+const ROOM: usize = 65536;
+
+// The bytes from one place to another are read and not taken yet.
+#[derive(Drop)]
 pub struct Reader {
-    pub held: usize,
-    pub next: usize,
-    pub from: usize,
-    pub to: usize,
-    pub over: bool,
-    pub long: bool,
+    input: [u8; ROOM],
+    from: usize,
+    to: usize,
+    ghost order: { from ≤ to },
+    ghost within: { to ≤ 65536 },
 }
 
 impl Reader {
-    // Before the first line.
     pub fn new() -> Reader {
         Reader {
-            held: 0,
-            next: 0,
+            input: [0; ROOM],
             from: 0,
             to: 0,
-            over: false,
-            long: false,
         }
     }
 
-    // With the line up to a place, and the next one behind its line feed.
-    fn taking(mut self, to: usize) -> Reader {
-        self.from = self.next;
-        self.to = to;
-        self.next = std::num::wrapping_add_usize(to, 1);
-        self
+    // Reads behind the bytes that are left, which move to the front. Whether more came: an input that can't be read is at its end.
+    fn read_more<F: Read>(&mut self, file: &mut F) -> bool {
+        let left = self.to - self.from;
+        self.input.copy_within(self.from..self.to, 0);
+        self.from = 0;
+        self.to = left;
+        let Ok(n) = file.read(&mut self.input[left..]) else {
+            return false;
+        };
+        if n <= ROOM - left {
+            self.to = left + n;
+        }
+        self.to != left
     }
 
-    // At the input's end: the last line may lack its line feed.
-    fn last(mut self) -> Reader {
-        self.from = self.next;
-        self.to = self.held;
-        self.over = self.held <= self.next;
-        self.next = self.held;
-        self
+    // What is left at the file's end.
+    fn last(&mut self) -> Option<&[u8]> {
+        let from = self.from;
+        self.from = self.to;
+        if from < self.to {
+            Some(&self.input[from..self.to])
+        } else {
+            None
+        }
     }
 
-    fn too_long(mut self) -> Reader {
-        self.long = true;
-        self
-    }
-}
-
-// Where the line ends that begins at next, if its line feed is held.
-fn line_end(input: &[u8; ROOM], next: usize, held: usize) -> usize {
-    let all: &[u8] = input;
-    if held <= all.len() {
-        if next <= held {
-            return until(&all[0..held], next, b'\n');
+    // The next line, without its line feed, which the last one may lack; none at the file's end. Each turn reads a byte or more, so
+    // there are turns enough.
+    pub fn next_line<F: Read>(&mut self, file: &mut F) -> Result<Option<&[u8]>, ScriptError> {
+        for _ in 0..=ROOM {
+            let from = self.from;
+            let left = &self.input[from..self.to];
+            if let Some(length) = left.iter().position(|byte| *byte == b'\n') {
+                self.from = from + length + 1;
+                return Ok(Some(&self.input[from..from + length]));
+            }
+            if left.len() == ROOM {
+                return Err(ScriptError::TooLong);
+            }
+            if !self.read_more(file) {
+                return Ok(self.last());
+            }
         }
+        Err(ScriptError::TooLong)
     }
-    held
-}
-
-// Moves the bytes from `from` to `to` to the front, and hands back how many they are.
-fn carry(input: &mut [u8; ROOM], from: usize, to: usize) -> usize {
-    let mut n: usize = 0;
-    let mut i = from;
-    while i < to {
-        if ROOM <= i {
-            return n;
-        }
-        if ROOM <= n {
-            return n;
-        }
-        input[n] = input[i];
-        n += 1;
-        i += 1;
-    }
-    n
-}
-
-// Reads behind the bytes that are held, and hands back how many there are then.
-fn read_more<F: Read>(file: &mut F, input: &mut [u8], held: usize) -> usize {
-    if input.len() < held {
-        return held;
-    }
-    let room = input.len() - held;
-    let Ok(n) = file.read(&mut input[held..]) else {
-        return held;
-    };
-    if n <= room {
-        return held + n;
-    }
-    held
-}
-
-// Takes the next line. A line that fills the buffer is too long. Each turn reads a byte or more, so there are turns enough.
-pub fn next_line<F: Read>(file: &mut F, input: &mut [u8; ROOM], given: Reader) -> Reader {
-    let mut reader = given;
-    let mut turns: usize = ROOM;
-    while turns > 0 {
-        turns -= 1;
-        let end = line_end(input, reader.next, reader.held);
-        if end < reader.held {
-            return reader.taking(end);
-        }
-        let kept = carry(input, reader.next, reader.held);
-        if ROOM <= kept {
-            return reader.too_long();
-        }
-        reader.next = 0;
-        reader.held = read_more(file, input, kept);
-        if reader.held == kept {
-            return reader.last();
-        }
-    }
-    reader.too_long()
 }

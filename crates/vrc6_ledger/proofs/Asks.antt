@@ -1,28 +1,25 @@
 -- The calls that ask interrupt and sound alone: all that the theorem over lists needs of one, as one record, so that a new one is one clause here. Assumes nothing.
 use mathlib.Core.Path.{◌≡◌, refl, sym, ap, ◌∙◌}
-use mathlib.Core.Bool.{Bool, true, false}
-use Prim.Native.Nat.{ℕ, zero, suc}
+use mathlib.Core.Bool.{Bool, true, false, cond}
+use mathlib.Core.List.{[], ◌∷◌}
+use Rattle.std.specs.Prelude.{Option, Ok, Err}
+use Rattle.base_shared.specs.declared.Refusal.TheVariants.{Range}
+use Prim.Native.Nat.{ℕ}
 use native.Mathlib.Nat.{add-zero}
 use lib.Ieee.{Float}
-use Rattle.base_shared.specs.Refusals.{unless}
+use Rattle.base_shared.specs.Refusals.{first_failing, unless}
 use Rattle.base_shared.specs.Rows.{flag}
-use Rattle.base_shared.proofs.Tests.{either, unless_refused}
+use Rattle.base_shared.proofs.Tests.{unless_refused}
 use Rattle.base_steps.specs.Times.{times, count}
-use Rattle.irq.specs.declared.VrcIrq.{VrcIrq}
 use Rattle.irq.specs.Timing.{clock_answer, forecast_answer}
 use Rattle.audio.specs.declared.Audio.{Audio}
 use Rattle.audio.specs.declared.Level.TheVariants.{Refused as NoLevel}
 use Rattle.audio.specs.Sound.{any_enabled}
 use Rattle.audio.specs.Levels.{level_of, level_name, level_refusal, level_in, output_of}
-use Rattle.vrc6_engine.specs.declared.answers.Forecast.TheVariants.{Refused}
-use Rattle.vrc6_engine.specs.Engine.{forecast_of}
 use Rattle.vrc6.specs.declared.board.Board.{Board}
-use Rattle.vrc6.specs.declared.board.Clocked.{Clocked}
-use Rattle.vrc6.specs.declared.board.Written.{Written}
 use Rattle.vrc6.specs.Boards.{State, held_by}
-use Rattle.vrc6.specs.Checks.{engine_refusal}
+use Rattle.vrc6.specs.Checks.{engine_in_range, engine_refusal}
 use Rattle.vrc6.specs.Calls.{clocked, was_reset}
-use Rattle.vrc6.proofs.Engines.{clock_law, reset_law}
 use Rattle.vrc6_calls.specs.Lists.{Ask, clocking, resetting, leveling, forecasting, asks, answer_to, given_by, refusal_in, ticks_in, forecast_refusal, forecast_part, next_by}
 use Rattle.vrc6_ledger.specs.Ledger.{asked, clocks}
 use Rattle.vrc6_ledger.specs.Refused.{GivenBack}
@@ -58,53 +55,55 @@ level_fine false halt x = refl
 level_fine true true x = refl
 level_fine true false x = refl
 
-level_number : (a : Audio) (n : ℕ) → level_refusal (unless n (level_of a) (NoLevel n)) ≡ n
-level_number a zero = level_fine (any_enabled a) a.halt (output_of a.out)
-level_number a (suc n) = refl
+-- the number of an answer by its test, and nothing in it where it is refused
+level_number : (a : Audio) (t : Bool) → level_refusal (cond t (level_of a) (NoLevel Range)) ≡ first_failing ((t, 3) ∷ [])
+level_number a true = level_fine (any_enabled a) a.halt (output_of a.out)
+level_number a false = refl
 
-forecast_number : (q : VrcIrq) (n : ℕ) → forecast_refusal (unless n (forecast_of (forecast_answer q)) (Refused n)) ≡ n
-forecast_number q zero = either (λ f. forecast_refusal (forecast_of f) ≡ 0) q.enabled refl refl
-forecast_number q (suc n) = refl
+no_level : (a : Audio) (t : Bool) → (first_failing ((t, 3) ∷ []) ≡ 0 → ⊥) → level_in (cond t (level_of a) (NoLevel Range)) ≡ []
+no_level a true h = absurd (h refl)
+no_level a false h = refl
+
+forecast_number : (f : Option ℕ) (t : Bool) → forecast_refusal (cond t (Ok f) (Err Range)) ≡ first_failing ((t, 3) ∷ [])
+forecast_number f true = refl
+forecast_number f false = refl
+
+no_forecast : (f : Option ℕ) (t : Bool) → (first_failing ((t, 3) ∷ []) ≡ 0 → ⊥) → forecast_part (cond t (Ok f) (Err Range)) ≡ []
+no_forecast f true h = absurd (h refl)
+no_forecast f false h = refl
 
 one_tick : (b : Board) → engine_refusal b ≡ 0 → ticks_in (answer_to b clocking) ≡ ticks_noted (timing_of b.irq) (clocks 1)
 unfolding times count
 one_tick b h =
-    ap (λ (r : Clocked). flag r.ticked) (clock_law b)
-    ∙ ap (λ (n : ℕ). flag (unless n (clock_answer b.irq).ticked false)) h
+    ap (λ (n : ℕ). flag (unless n (clock_answer b.irq).ticked false)) h
     ∙ sym (add-zero (flag (clock_ticks (timing_of b.irq))))
 
 one_clock : (x : State) → engine_refusal x.board ≡ 0 → next_by x (asks clocking) ≡ done x (clocks 1)
 unfolding times
-one_clock x h =
-    ap (λ (r : Clocked). held_by r.board x.fixed x.changing) (clock_law x.board)
-    ∙ board_by x (clocked x.board) (engine_refusal x.board) h
+one_clock x h = board_by x (clocked x.board) (engine_refusal x.board) h
 
 pub ask_law : (q : Ask) → AskLaw q
 ask_law clocking =
     record {
-      number = λ b. ap (λ (r : Clocked). r.refusal) (clock_law b);
+      number = λ b. refl;
       done_by = one_clock;
       ticks = one_tick;
       back = λ x h. record {
-        state = ap (λ (r : Clocked). held_by r.board x.fixed x.changing) (clock_law x.board) ∙ board_back x (engine_refusal x.board) _ h;
+        state = board_back x (engine_refusal x.board) _ h;
         byte = refl;
         view = refl;
-        tick =
-            ap (λ (r : Clocked). flag r.ticked) (clock_law x.board)
-            ∙ ap flag (not_done (engine_refusal x.board) (clock_answer x.board.irq).ticked false h);
+        tick = ap flag (not_done (engine_refusal x.board) (clock_answer x.board.irq).ticked false h);
         level = refl;
         forecast = refl;
       };
     }
 ask_law resetting =
     record {
-      number = λ b. ap (λ (r : Written). r.refusal) (reset_law b);
-      done_by = λ x h.
-          ap (λ (r : Written). held_by r.board x.fixed x.changing) (reset_law x.board)
-          ∙ board_by x (was_reset x.board) (engine_refusal x.board) h;
+      number = λ b. refl;
+      done_by = λ x h. board_by x (was_reset x.board) (engine_refusal x.board) h;
       ticks = λ b h. refl;
       back = λ x h. record {
-        state = ap (λ (r : Written). held_by r.board x.fixed x.changing) (reset_law x.board) ∙ board_back x (engine_refusal x.board) _ h;
+        state = board_back x (engine_refusal x.board) _ h;
         byte = refl;
         view = refl;
         tick = refl;
@@ -114,7 +113,7 @@ ask_law resetting =
     }
 ask_law leveling =
     record {
-      number = λ b. level_number b.audio (engine_refusal b);
+      number = λ b. level_number b.audio (engine_in_range b);
       done_by = λ x h. refl;
       ticks = λ b h. refl;
       back = λ x h. record {
@@ -122,13 +121,13 @@ ask_law leveling =
         byte = refl;
         view = refl;
         tick = refl;
-        level = ap level_in (not_done (engine_refusal x.board) (level_of x.board.audio) (NoLevel (engine_refusal x.board)) h);
+        level = no_level x.board.audio (engine_in_range x.board) h;
         forecast = refl;
       };
     }
 ask_law forecasting =
     record {
-      number = λ b. forecast_number b.irq (engine_refusal b);
+      number = λ b. forecast_number (forecast_answer b.irq) (engine_in_range b);
       done_by = λ x h. refl;
       ticks = λ b h. refl;
       back = λ x h. record {
@@ -137,6 +136,6 @@ ask_law forecasting =
         view = refl;
         tick = refl;
         level = refl;
-        forecast = ap forecast_part (not_done (engine_refusal x.board) (forecast_of (forecast_answer x.board.irq)) (Refused (engine_refusal x.board)) h);
+        forecast = no_forecast (forecast_answer x.board.irq) (engine_in_range x.board) h;
       };
     }

@@ -6,7 +6,7 @@ use Prim.Native.Nat.{ℕ, zero, suc}
 use lib.Dec.{lit<}
 use Rattle.base_shared.specs.Refusals.{unless}
 use Rattle.memory_pages.specs.declared.page.Page.{Page}
-use Rattle.memory_pages.specs.declared.page.Lookup.TheVariants.{Unmapped, Mapped}
+use Rattle.std.specs.Prelude.{Some, None}
 use Rattle.memory_pages.specs.Pages.{found, is_unmapped}
 use Rattle.memory_tables.specs.Paging.{cpu, picture, entry_for}
 use Rattle.memory_access.specs.declared.Peeked.{Peeked}
@@ -26,8 +26,8 @@ use Rattle.vrc6_calls.specs.declared.Call.TheVariants.{CpuRead, PictureRead}
 use Rattle.vrc6_calls.specs.declared.Answer.{Answer}
 use Rattle.vrc6_calls.specs.declared.Answer.TheVariants.{Byte}
 use Rattle.vrc6.specs.Boards.{State, held_by, Creation, new_board, zero_board, entry_of}
-use Rattle.vrc6.specs.Checks.{create_refusal, memory_refusal, cpu_write_refusal}
-use Rattle.vrc6.specs.Calls.{side_of, byte_read, register_written, cpu_written, picture_written}
+use Rattle.vrc6.specs.Checks.{create_refusal, engine_refusal, memory_refusal, cpu_write_refusal}
+use Rattle.vrc6.specs.Calls.{clocked, was_reset, side_of, byte_read, register_written, cpu_written, picture_written}
 use Rattle.vrc6_calls.specs.Lists.{Ask, clocking, resetting, leveling, forecasting, Shape, reads, writes, views, asks, shape, given_by, of_read, next_by, after, answers}
 use Rattle.vrc6_ledger.specs.Ledger.{Ledger, opening, banking_of, entries, ledger_of}
 use Rattle.vrc6_ledger.specs.Demand3.{start}
@@ -64,9 +64,16 @@ module _ (setting : Bool) where
   write zero x y z e = ap (λ (u : State). held_by u.board x.fixed u.changing) e
   write (suc n) x y z e = refl
 
+  -- a clock or a reset that is refused or not
+  engine : (n : ℕ) (x : State) (b : Board)
+      → held_by (unless n (board_with setting b) (board_with setting x.board)) x.fixed x.changing
+      ≡ state_with setting (held_by (unless n b x.board) x.fixed x.changing)
+  engine zero x b = refl
+  engine (suc n) x b = refl
+
   asked : (x : State) (q : Ask) → next_by (state_with setting x) (asks q) ≡ state_with setting (next_by x (asks q))
-  asked x clocking = refl
-  asked x resetting = refl
+  asked x clocking = engine (engine_refusal x.board) x (clocked x.board)
+  asked x resetting = engine (engine_refusal x.board) x (was_reset x.board)
   asked x leveling = refl
   asked x forecasting = refl
 
@@ -83,8 +90,8 @@ module _ (setting : Bool) where
 -- ---- what a call says
 -- a CPU read with the number n, of an entry that is unmapped or not
 read_said : (n bus byte : ℕ) (u : Bool) (e : Page)
-    → ◌≡◌ {A = Answer × List ℕ} (Byte (unless n (handed (by_cpu bus) true (cond u Unmapped (Mapped e)) byte) 0) n, [])
-    (cond (unless n u false) (Byte bus 0, []) (Byte (unless n (handed (by_cpu bus) false (cond u Unmapped (Mapped e)) byte) 0) n, []))
+    → ◌≡◌ {A = Answer × List ℕ} (Byte (unless n (handed (by_cpu bus) true (cond u None (Some e)) byte) 0) n, [])
+    (cond (unless n u false) (Byte bus 0, []) (Byte (unless n (handed (by_cpu bus) false (cond u None (Some e)) byte) 0) n, []))
 read_said zero bus byte true e = refl
 read_said zero bus byte false e = refl
 read_said (suc n) bus byte u e = refl
@@ -138,7 +145,7 @@ setting_law =
     }
 
 -- ---- a read from the ledger
-decided : (setting u : Bool) (bus byte : ℕ) (e : Page) → handed (by_cpu bus) setting (cond u Unmapped (Mapped e)) byte ≡ cond (setting && u) bus byte
+decided : (setting u : Bool) (bus byte : ℕ) (e : Page) → handed (by_cpu bus) setting (cond u None (Some e)) byte ≡ cond (setting && u) bus byte
 decided true true bus byte e = refl
 decided true false bus byte e = refl
 decided false true bus byte e = refl

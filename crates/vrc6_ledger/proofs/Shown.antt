@@ -120,11 +120,11 @@ module _ (c : Creation) (o : Settings) (g : Registers) (eight : length g.chr ≡
 -- ---- clocks, one after the other
 -- the board changes in its interrupt and its sound alone
 clocked_board : (n : ℕ) (b : Board)
-    → times n clocked b ≡ with_engine b (times n (λ q. (clock_answer q).irq) b.irq) (times n audio_clocked b.audio)
+    → times n clocked b ≡ with_engine b (record { irq = times n (λ q. (clock_answer q).irq) b.irq; audio = times n audio_clocked b.audio })
 unfolding times
 clocked_board n b =
     worked_out clocked b
-    (λ m. with_engine b (times m (λ q. (clock_answer q).irq) b.irq) (times m audio_clocked b.audio)) refl (λ m. refl) n
+    (λ m. with_engine b (record { irq = times m (λ q. (clock_answer q).irq) b.irq; audio = times m audio_clocked b.audio })) refl (λ m. refl) n
 
 -- and of the interrupt the ledger has its own four values
 clocked_timing : (n : ℕ) (q : VrcIrq) → timing_of (times n (λ p. (clock_answer p).irq) q) ≡ times n timing_clocked (timing_of q)

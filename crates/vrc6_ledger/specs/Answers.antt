@@ -1,20 +1,19 @@
 -- What level and forecast answer where they are not refused, in the paper's words (01, The board's calls 2). Assumes nothing.
-use Rattle.std.specs.Prelude.{◌≡◌, true, false, ◌+◌, ◌-◌, ◌*◌, ◌/◌}
+use Rattle.std.specs.Prelude.{◌≡◌, Ok, Some, None, true, false, ◌+◌, ◌-◌, ◌*◌, ◌/◌}
 use Rattle.audio.specs.declared.Level.TheVariants.{Silent, Held, Playing}
 use Rattle.audio.specs.Sound.{any_enabled}
 use Rattle.audio.specs.Levels.{output_of}
 use Rattle.vrc6.specs.declared.board.Board.{Board}
-use Rattle.vrc6_engine.specs.declared.answers.Forecast.TheVariants.{None, In}
 use Rattle.vrc6.specs.Checks.{engine_refusal}
 use Rattle.vrc6.specs.Calls.{level, forecast}
 
 -- the forecast: None if not enabled; 256 - counter in cycle mode; else (341 × (255 - counter) + prescaler + 2) / 3, rounded down
 -- (01, The board's calls 2)
 pub record Forecasts (b : Board) : Type 0 where
-  pub idle : b.irq.enabled ≡ false → (forecast b).forecast ≡ None
-  pub cycle : b.irq.enabled ≡ true → b.irq.cycle_mode ≡ true → (forecast b).forecast ≡ In (256 - b.irq.counter)
+  pub idle : b.irq.enabled ≡ false → (forecast b).forecast ≡ Ok None
+  pub cycle : b.irq.enabled ≡ true → b.irq.cycle_mode ≡ true → (forecast b).forecast ≡ Ok (Some (256 - b.irq.counter))
   pub lines : b.irq.enabled ≡ true → b.irq.cycle_mode ≡ false
-      → (forecast b).forecast ≡ In ((341 * (255 - b.irq.counter) + b.irq.prescalar_counter + 2) / 3)
+      → (forecast b).forecast ≡ Ok (Some ((341 * (255 - b.irq.counter) + b.irq.prescalar_counter + 2) / 3))
 
 -- of every board whose interrupt and sound values are in range
 abbrev pub ForecastAnswerLaw : Type 0

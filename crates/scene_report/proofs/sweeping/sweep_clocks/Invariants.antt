@@ -1,5 +1,5 @@
 -- `sweep_clocks` meets its contract. Assumes nothing.
-use Prim.Native.Nat.{◌-◌}
+use Rattle.std.proofs.Common.{◌-◌}
 use Rattle.scene_sweep.proofs.Sweeping.{Upto}
 use Rattle.scene_report.proofs.sweeping.sweep_clocks.Given as goal
 

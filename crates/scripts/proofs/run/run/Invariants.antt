@@ -1,8 +1,0 @@
--- `run` is safe and ends. Assumes nothing.
-use Rattle.scripts.proofs.run.run.Given as goal
-
-abbrev pub invariant-loop-turns : goal.invariant-loop-turns
-invariant-loop-turns g l = Unit {0}
-
-abbrev pub decreases-loop-turns : goal.decreases-loop-turns
-decreases-loop-turns g l = l.turns
