@@ -75,7 +75,6 @@ module _ (file : List ℕ) (c : Cartridge) (accepted : read_header file ≡ Ok c
     loaded_length =
         ap length (sym loaded) ∙ length-take-le m (rom_from c.prg_start file) (rom_size c.prg_start file m enough)
 
-
 -- ---- the number
 two : (t : Bool) → t ≡ false → ◌≡◌ {A = ℕ} (cond t 0 2) 0 → ⊥
 two false f e = omega (arith, e)
@@ -135,9 +134,10 @@ module _ (file fixed changing : List ℕ) where
   pub kept : (r : Refusal) → number r ≡ fill_refusal file (length fixed) (length changing)
       → (fixed ≡ fixed_filled file fixed changing) × (changing ≡ changing_filled file fixed changing)
   unfolding refusal
-  kept r e =
-      (sym (unless_refused (fixed_of file) fixed refusal (number r) e (never_zero r)),
-      sym (unless_refused (replicate (length changing) 0) changing refusal (number r) e (never_zero r)))
+  kept r e = (
+    sym (unless_refused (fixed_of file) fixed refusal (number r) e (never_zero r)),
+    sym (unless_refused (replicate (length changing) 0) changing refusal (number r) e (never_zero r)),
+  )
 
   pub filled : (c : Cartridge) → read_header file ≡ Ok c
       → (z : first_failing (layout_checks c.layout (length fixed) (length changing)) ≡ 0) → {first second : List ℕ}
@@ -146,6 +146,7 @@ module _ (file fixed changing : List ℕ) where
   unfolding refusal
   filled c h z a b =
       let none : refusal ≡ 0 = sym (checked file (length fixed) (length changing) c h) ∙ z in
-      let fit = fitting file (length fixed) (length changing) c h z in
-      (a ∙ loaded file c h (length fixed) (length changing) fit ∙ sym (unless_done (fixed_of file) fixed refusal refusal refl none),
-      b ∙ sym (unless_done (replicate (length changing) 0) changing refusal refusal refl none))
+      let fit = fitting file (length fixed) (length changing) c h z in (
+        a ∙ loaded file c h (length fixed) (length changing) fit ∙ sym (unless_done (fixed_of file) fixed refusal refusal refl none),
+        b ∙ sym (unless_done (replicate (length changing) 0) changing refusal refusal refl none),
+      )

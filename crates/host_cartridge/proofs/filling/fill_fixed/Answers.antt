@@ -1,5 +1,4 @@
 -- `fill_fixed` meets its contract. Assumes nothing.
-use mathlib.Core.Path.{refl}
 use Rattle.host_cartridge.proofs.Runs.{behind_zeros}
 use Rattle.host_cartridge.proofs.filling.fill_fixed.Goals as goal
 

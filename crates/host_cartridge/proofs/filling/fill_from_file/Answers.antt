@@ -1,8 +1,7 @@
 -- `fill_from_file` meets its contract. Assumes nothing.
-use Rattle.std.proofs.Common.{◌≡◌, refl, sym, ap, ◌∙◌, length}
+use Rattle.std.proofs.Common.{sym, ap, ◌∙◌, length}
 use Rattle.std.proofs.lemmas.Result.{err_from_is_err_and}
-use Rattle.base_shared.specs.Numbers.{number, number_of}
-use Rattle.host_cartridge.specs.Filled.{fill_refusal}
+use Rattle.base_shared.specs.Numbers.{number_of}
 use Rattle.host_cartridge.proofs.Loading.{of_refused, checked, fitting, enough, kept, filled}
 use Rattle.host_cartridge.proofs.filling.fill_from_file.Goals as goal
 
