@@ -13,7 +13,8 @@ use Rattle.base_shared.specs.declared.Refusal.{Refusal}
 use Rattle.base_shared.specs.declared.Refusal.TheVariants.{NoHeader, Mapper, FileLength}
 use Rattle.base_shared.specs.Numbers.{number}
 use Rattle.base_shared.specs.Refusals.{first_failing}
-use Rattle.base_shared.proofs.Tests.{and_left, tested}
+use Rattle.base_shared.proofs.Answers.{never_zero}
+use Rattle.base_shared.proofs.Tests.{and_left, tested, unless_done, unless_refused}
 use Rattle.memory_layout.specs.Layout.{whole_pages, fixed_chr, fixed_length, changing_length, lengths_fit, layout_checks}
 use Rattle.cartridge.specs.declared.cartridge.Cartridge.{Cartridge}
 use Rattle.cartridge.specs.declared.cartridge.NesHeader.{NesHeader}
@@ -21,7 +22,7 @@ use Rattle.cartridge.specs.Cartridges.{prg_start, stated_layout, fits}
 use Rattle.cartridge_header.specs.Ines.{is_ines, is_supported, read_header, stated_by, unless_failing}
 use Rattle.cartridge_header.proofs.Meanings.{file_end_lem}
 use Rattle.cartridge_header.proofs.Places.{known, in_file_law}
-use Rattle.host_cartridge.specs.Filled.{cartridge_in, fill_refusal, fixed_of, rom_from}
+use Rattle.host_cartridge.specs.Filled.{cartridge_in, fill_refusal, fixed_of, fixed_filled, changing_filled, rom_from}
 use Rattle.host_cartridge.proofs.Runs.{length_zeros, two_parts}
 
 -- ---- lengths
@@ -74,8 +75,11 @@ module _ (file : List ℕ) (c : Cartridge) (accepted : read_header file ≡ Ok c
     loaded_length =
         ap length (sym loaded) ∙ length-take-le m (rom_from c.prg_start file) (rom_size c.prg_start file m enough)
 
-
 -- ---- the number
+two : (t : Bool) → t ≡ false → ◌≡◌ {A = ℕ} (cond t 0 2) 0 → ⊥
+two false f e = omega (arith, e)
+two true f e = cc
+
 -- the header's three tests and a fourth: where the header is refused its number counts, and where not the fourth decides
 module _ (k : Cartridge) where
   answered : (a b z : Bool) → Result Cartridge Refusal
@@ -85,14 +89,14 @@ module _ (k : Cartridge) where
   counted a b z t = first_failing ((a, 5) ∷ (b, 6) ∷ (z, 7) ∷ (t, 2) ∷ [])
 
   refused_number : (a b z t : Bool) (r : Refusal) → answered a b z ≡ Err r → number r ≡ counted a b z t
-  unfolding (answered, counted)
+  unfolding answered counted
   refused_number true true true t r h = cc
   refused_number true true false t r h = let e : r ≡ FileLength = cc in ap number e
   refused_number true false z t r h = let e : r ≡ Mapper = cc in ap number e
   refused_number false b z t r h = let e : r ≡ NoHeader = cc in ap number e
 
   accepted_number : (a b z t : Bool) (c : Cartridge) → answered a b z ≡ Ok c → counted a b z t ≡ cond t 0 2
-  unfolding (answered, counted)
+  unfolding answered counted
   accepted_number true true true t c h = refl
   accepted_number true true false t c h = cc
   accepted_number true false z t c h = cc
@@ -100,13 +104,13 @@ module _ (k : Cartridge) where
 
 module _ (file : List ℕ) (m n : ℕ) where
   pub of_refused : (r : Refusal) → read_header file ≡ Err r → number r ≡ fill_refusal file m n
-  unfolding (answered, counted)
+  unfolding answered counted
   of_refused r h =
       refused_number (cartridge_in file) (is_ines file) (is_supported file) (fits (stated_by file) (length file))
       (lengths_fit (cartridge_in file).layout m n) r h
 
   pub of_accepted : (c : Cartridge) → read_header file ≡ Ok c → fill_refusal file m n ≡ cond (lengths_fit c.layout m n) 0 2
-  unfolding (answered, counted)
+  unfolding answered counted
   of_accepted c h =
       accepted_number (cartridge_in file) (is_ines file) (is_supported file) (fits (stated_by file) (length file))
       (lengths_fit (cartridge_in file).layout m n) c h
@@ -115,3 +119,34 @@ module _ (file : List ℕ) (m n : ℕ) where
   -- the layout's own two tests say the same
   pub checked : (c : Cartridge) → read_header file ≡ Ok c → first_failing (layout_checks c.layout m n) ≡ fill_refusal file m n
   checked c h = rw ((in_file_law file c h).limits) (sym (of_accepted c h))
+
+  -- so where they hold the buffers fit
+  pub fitting : (c : Cartridge) → read_header file ≡ Ok c → first_failing (layout_checks c.layout m n) ≡ 0 → lengths_fit c.layout m n ≡ true
+  fitting c h z =
+      let e = sym (of_accepted c h) ∙ sym (checked c h) ∙ z in
+      tested (lengths_fit c.layout m n) (λ t. t) (λ f. absurd (two (lengths_fit c.layout m n) f e))
+
+-- ---- both buffers: as they were, or filled
+module _ (file fixed changing : List ℕ) where
+  refusal : ℕ
+  refusal = fill_refusal file (length fixed) (length changing)
+
+  pub kept : (r : Refusal) → number r ≡ fill_refusal file (length fixed) (length changing)
+      → (fixed ≡ fixed_filled file fixed changing) × (changing ≡ changing_filled file fixed changing)
+  unfolding refusal
+  kept r e = (
+    sym (unless_refused (fixed_of file) fixed refusal (number r) e (never_zero r)),
+    sym (unless_refused (replicate (length changing) 0) changing refusal (number r) e (never_zero r)),
+  )
+
+  pub filled : (c : Cartridge) → read_header file ≡ Ok c
+      → (z : first_failing (layout_checks c.layout (length fixed) (length changing)) ≡ 0) → {first second : List ℕ}
+      → first ≡ take (length fixed) (rom_from c.prg_start file) → second ≡ replicate (length changing) 0
+      → (first ≡ fixed_filled file fixed changing) × (second ≡ changing_filled file fixed changing)
+  unfolding refusal
+  filled c h z a b =
+      let none : refusal ≡ 0 = sym (checked file (length fixed) (length changing) c h) ∙ z in
+      let fit = fitting file (length fixed) (length changing) c h z in (
+        a ∙ loaded file c h (length fixed) (length changing) fit ∙ sym (unless_done (fixed_of file) fixed refusal refusal refl none),
+        b ∙ sym (unless_done (replicate (length changing) 0) changing refusal refusal refl none),
+      )

@@ -1,7 +1,7 @@
 -- Zeros, and parts of a list that stand behind them. Assumes nothing.
-use mathlib.Core.Path.{◌≡◌, refl, sym, ap, ◌∙◌}
+use mathlib.Core.Path.{◌≡◌, refl, sym, ap, ap₂, ◌∙◌}
 use mathlib.Core.List.{List, ◌++◌, append_assoc}
-use Prim.Native.Nat.{ℕ, zero, suc, ◌+◌}
+use Prim.Native.Nat.{ℕ, zero, suc, ◌+◌, ◌-◌, ◌≤◌}
 use native.Mathlib.Omega.{arith}
 use lib.ListN.{length, replicate, take, drop}
 use lib.Seq.{take-add, take-append-add, drop-drop}
@@ -21,3 +21,12 @@ two_parts n s p q l =
     ∙ ap (λ (r : List ℕ). replicate n 0 ++ r)
     (take-add p q (drop s l) ∙ ap (λ (r : List ℕ). take p (drop s l) ++ take q r) (drop-drop p s l))
     ∙ sym (append_assoc (replicate n 0) (take p (drop s l)) (take q (drop (s + p) l)))
+
+-- zeros over the first bytes of a buffer, and bytes of a list over the others
+pub behind_zeros : (n m k start : ℕ) (first second l : List ℕ) → 1024 ≤ m → n ≡ 1024 → k + 1024 ≡ m → first ≡ replicate n 0
+    → second ≡ take (start + k - start) (drop start l) → first ++ second ≡ take m (replicate 1024 0 ++ drop start l)
+behind_zeros n m k start first second l h e f a b =
+    let x : m ≡ length {A = ℕ} (replicate 1024 0) + k = omega (arith, f, length_zeros 1024) in
+    let y : start + k - start ≡ k = omega arith in
+    ap₂ ◌++◌ (a ∙ ap (λ (i : ℕ). replicate i 0) e) (b ∙ ap (λ (i : ℕ). take i (drop start l)) y)
+    ∙ sym (ap (λ (i : ℕ). take i (replicate 1024 0 ++ drop start l)) x ∙ take-append-add (replicate 1024 0) (drop start l) k)

@@ -16,15 +16,6 @@ bank_low (negsuc k) n h = omega arith
 pub bank_ends : (k q s n : ℕ) → k < q → q * s ≤ n → k * s + s ≤ n
 bank_ends k q s n h e = omega (arith, suc-mul k s, le_trans (mul-le-mul_right {m = suc k} {n = q} s h) e)
 
-under : (k q s n : ℕ) → k < max 1 q → q * s ≤ n → k * s ≤ n
-under zero q s n h e = omega arith
-under (suc k) q s n h e = le_trans (mul-le-mul_right {m = suc k} {n = q} s (omega arith)) e
-
--- it begins at or before the region's end
-pub base_low : (r : Region) (s : ℕ) (b : ℤ) → base r s b ≤ r.len
-base_low r s b =
-    under (rem_euclid b (bank_count r s)) (r.len / s) s r.len (bank_low b (bank_count r s) (omega arith)) (div-mul-le_self r.len s)
-
 before : (k q s n : ℕ) → k < max 1 q → q * s ≤ n → 1 ≤ s → 1 ≤ n → k * s < n
 before zero q s n h e l m = omega arith
 before (suc k) q s n h e l m = omega (arith, bank_ends (suc k) q s n (omega arith) e)

@@ -1,21 +1,21 @@
 -- The paging rule goes round a region of whole pages. Assumes nothing.
 use mathlib.Core.Path.{◌≡◌, refl, sym, ap, ap₂, ◌∙◌}
 use mathlib.Core.Bool.{Bool, true, false, cond}
-use Prim.Native.Nat.{ℕ, ◌+◌, ◌*◌, ◌/◌, ◌%◌, ◌^◌, ◌≤◌, ◌<◌}
+use Prim.Native.Nat.{ℕ, ◌+◌, ◌*◌, ◌/◌, ◌%◌, ◌≤◌, ◌<◌}
 use native.Mathlib.Omega.{arith}
-use native.Mathlib.Nat.{div-add-mod, mod-add-mod, mod-eq_of_lt, mod-lt, mod-mod, mod-one, mul-add-mod_self_left, mul_assoc}
+use native.Mathlib.Nat.{div-add-mod, mod-eq_of_lt, mod-lt, mod-mod, mod-one, mul-add-mod_self_left, mul_assoc, div-eq_of_lt, zero-mul, zero-add}
 use lib.Dec.{eqb}
 use lib.IntN.{ℤ, pos}
 use borrow.Author.Tests.{eqb-true, eqb-false}
-use Rattle.memory_pages.specs.Pages.{entry, offset, pages_on, unmapped}
-use Rattle.memory_pages.proofs.Entries.{offset_of, entry_on}
+use Rattle.memory_pages.specs.Pages.{entry, pages_on, unmapped}
+use Rattle.memory_pages.proofs.Entries.{entry_on}
 use Rattle.memory_layout.specs.declared.regions.Region.{Region}
-use Rattle.memory_rule.specs.declared.rings.PageRing.{PageRing}
-use Rattle.memory_rule.specs.declared.rings.RingRun.{RingRun}
 use Rattle.memory_rule.specs.Rule.{rem_euclid, bank_count, base, shown}
-use Rattle.memory_rule.specs.Required.{Closed, Whole, octet, ring_entries, ring_nth, ring_of, ring_page}
+use Rattle.memory_rule.specs.Required.{Whole, ring_of, ring_page}
 use Rattle.memory_rule.specs.Laws.{RingLaw}
+use Rattle.memory_rule.proofs.Banks.{bank_low}
 use Rattle.memory_rule.proofs.Unwrapped.{same_rule}
+use Rattle.base_shared.specs.Lists.{tabulate}
 
 -- a remainder counted in bytes is the one counted in pages
 scaled : (x m : ℕ) → 1 ≤ m → 1024 * x % (1024 * m) ≡ 1024 * (x % m)
@@ -31,15 +31,6 @@ module _ (r : Region) (w : Whole r) where
   -- a region that has bytes is so many pages long
   counted : (r.len ≡ 0 → ⊥) → r.len ≡ 1024 * count
   counted n = omega (arith, w.pages)
-
-  pub ring_round : Closed (ring_of r)
-  ring_round = record { some = omega arith; low = go (eqb r.len 0) refl }
-    where
-      go : (z : Bool) → eqb r.len 0 ≡ z → offset (cond z unmapped (entry r.start r.writable)) + 1024 * count < 2 ^ 30
-      go true e = omega (arith, eqb-true r.len 0 e)
-      go false e =
-          let long = counted (eqb-false r.len 0 e) in
-          omega (arith, w.below, offset_of r.start r.writable (omega (arith, w.below)))
 
   module _ (p : ℕ) (b : ℤ) where
     -- the page at which the bank begins
@@ -67,18 +58,13 @@ module _ (r : Region) (w : Whole r) where
             let low = mod-lt (from + i) {m = count} some in
             ap (λ (x : ℕ). entry (r.start + x) r.writable) inside ∙ sym (entry_on r.start r.writable at (omega (arith, w.below)))
 
-    -- eight entries of the window, from where the code begins
-    pub turned : (k : ℕ) (g : RingRun) → g.ring ≡ ring_of r → g.from ≡ (base r (p * 1024) b / 1024 + 8 * k) % count
-        → ring_entries g ≡ octet r (p * 1024) b k
-    turned k g is at = same_rule 8 (ring_nth g) (λ i. shown r (p * 1024) b (8 * k + i)) each
-      where
-        each : (i : ℕ) → i < 8 → ring_nth g i ≡ shown r (p * 1024) b (8 * k + i)
-        each i l =
-            let pages : base r (p * 1024) b / 1024 + 8 * k ≡ from + 8 * k = omega (arith, in_bytes 0) in
-            let apart : from + 8 * k + i ≡ from + (8 * k + i) = omega arith in
-            ap₂ (λ (o : PageRing) (n : ℕ). ring_page o (n + i)) is (at ∙ ap (λ (n : ℕ). n % count) pages)
-            ∙ ap (pages_on (ring_of r).first) (mod-add-mod (from + 8 * k) count i ∙ ap (λ (n : ℕ). n % count) apart)
-            ∙ sym (rounds (8 * k + i))
+  -- a window longer than the region goes round it from its first page
+  pub around : (n : ℕ) (b : ℤ) → r.len < n * 1024 → tabulate n (ring_page (ring_of r)) ≡ tabulate n (shown r (n * 1024) b)
+  around n b h =
+      let one : bank_count r (n * 1024) ≡ 1 = omega (arith, div-eq_of_lt h) in
+      let first : rem_euclid b (bank_count r (n * 1024)) ≡ 0 = omega (arith, bank_low b (bank_count r (n * 1024)) (omega arith)) in
+      same_rule n (ring_page (ring_of r)) (shown r (n * 1024) b)
+      (λ i l. sym (rounds n b i ∙ ap (λ (k : ℕ). ring_page (ring_of r) (k * n + i)) first ∙ rw (zero-mul, zero-add)))
 
   -- a window of one page
   pub one_shown : (v : ℕ) → shown r 1024 (pos v) 0 ≡ ring_page (ring_of r) v

@@ -2,14 +2,16 @@
 #![tactic(auto)]
 
 pub mod rings;
-pub mod runs;
 
-ghost use Rattle.std.specs.Prelude.{◌≡◌, ◌≤◌};
-ghost use Rattle.memory_rule.specs.Required.{Reach};
+ghost use Rattle.std.specs.Prelude.{◌≡◌, ◌+◌, ◌*◌, ◌^◌, ◌<◌, ◌≤◌, length};
+ghost use Rattle.base_shared.specs.Lists.{tabulate};
+ghost use Rattle.memory_pages.specs.Pages.{offset, pages_on};
+ghost use Rattle.memory_rule.specs.Required.{Mapped, Reach};
 ghost use Rattle.memory_rule.specs.Rule.{bank_count, base, rem_euclid, shown};
 
 use memory_layout::Region;
 use memory_pages::Page;
+use rings::PageRing;
 
 // A bank's number modulo the count of banks, never negative: -1 is the last bank.
 fn rem_euclid(bank: i32, banks: u32) -> u32
@@ -33,11 +35,7 @@ fn bank_count(region: Region, size: u32) -> u32
     requires { 1 ≤ size }
     ensures { result ≡ bank_count region size }
 {
-    let whole = region.len / size;
-    if whole == 0 {
-        return 1;
-    }
-    whole
+    (region.len / size).max(1)
 }
 
 // Where a bank begins in its region.
@@ -48,16 +46,28 @@ fn bank_base(region: Region, size: u32, bank: i32) -> u32
     rem_euclid(bank, bank_count(region, size)) * size
 }
 
-// The first page of a window. A bank begins before its region ends, so this page never wraps.
-fn first_page(region: Region, size: u32, bank: i32) -> Page
-    requires { Reach region size }
-    ensures { result ≡ shown region size bank 0 }
+// A page in each entry, one behind the other.
+fn follow(window: &mut [Page], first: Page)
+    requires { (offset first + 1024 * length window.old < 2 ^ 30) × (length window.old ≤ 16) }
+    ensures { window.new ≡ tabulate (length window.old) (pages_on first) }
 {
-    if region.len == 0 {
-        return Page::UNMAPPED;
+    for (i, entry) in window.iter_mut().enumerate() {
+        *entry = first.pages_on(i as u32);
     }
-    Page::new(
-        region.start + bank_base(region, size, bank),
-        region.writable,
-    )
+}
+
+// Shows a bank of a region in a window, which has an entry for each of its pages.
+pub fn map_window(window: &mut [Page], region: Region, bank: i32)
+    requires { Mapped region (length window.old) }
+    ensures { window.new ≡ tabulate (length window.old) (shown region (length window.old * 1024) bank) }
+{
+    let size = window.len() as u32 * 1024;
+    if size <= region.len {
+        // The bank ends before its region does, so no page of it wraps.
+        let start = region.start + bank_base(region, size, bank);
+        follow(window, Page::new(start, region.writable));
+    } else {
+        // The region is one bank, and the window goes round it.
+        PageRing::of(region).show(window);
+    }
 }

@@ -1,15 +1,13 @@
-// A region as a ring of pages: behind its last page comes its first. For windows of whole pages this is the paging rule. The bank says
-// at which page of the ring a window begins, and the window's entries go round from there, so that at most the first of eight entries
-// needs a division.
-ghost use Rattle.std.specs.Prelude.{◌≡◌, ◌+◌, ◌%◌, ◌<◌};
+// A region as a ring of pages: behind its last page comes its first. For windows of whole pages this is the paging rule.
+ghost use Rattle.std.specs.Prelude.{◌≡◌, ◌+◌, ◌%◌, ◌<◌, length};
 ghost use Rattle.base_shared.specs.Lists.{tabulate};
-ghost use Rattle.memory_rule.specs.Required.{AllBegun, Begun, Closed, Turning, Whole, octet, ring_entries, ring_entry, ring_of, ring_page};
+ghost use Rattle.memory_rule.specs.Required.{Closed, Whole, ring_of, ring_page};
 
-use crate::{bank_base, bank_count};
+use crate::bank_count;
 use memory_layout::Region;
 use memory_pages::Page;
 
-#[derive(Clone, Copy)]
+#[derive(Clone, Copy, Debug, PartialEq, Eq)]
 pub struct PageRing {
     pub first: Page,
     // How many pages there are, at least 1.
@@ -67,51 +65,16 @@ impl PageRing {
         }
         0
     }
-}
 
-// Eight entries, one page of a ring behind the other, from a page on.
-#[derive(Clone, Copy)]
-pub struct RingRun {
-    pub ring: PageRing,
-    pub from: u32,
-}
-
-impl RingRun {
-    // Shows the page of zeros eight times.
-    pub const UNMAPPED: RingRun = RingRun {
-        ring: PageRing::UNMAPPED,
-        from: 0,
-    };
-}
-
-// Entries 8 k to 8 k + 7 of a window.
-pub fn window_ring(region: Region, size: u32, bank: i32, k: u32) -> RingRun
-    requires { Turning region size k }
-    ensures { (ring_entries result ≡ octet region size bank k) × Begun result }
-{
-    let ring = PageRing::of(region);
-    let from = ring.round(bank_base(region, size, bank) / 1024 + 8 * k);
-    RingRun { ring, from }
-}
-
-// The CPU's table, run by run.
-pub fn ring_table(runs: [RingRun; 8]) -> [Page; 64]
-    requires { AllBegun 8 runs }
-    ensures { result ≡ tabulate 64 (ring_entry runs) }
-{
-    let mut pages = [Page::UNMAPPED; 64];
-    let mut k: usize = 0;
-    while k < 8 {
-        let run = runs[k];
-        let mut at = run.from;
-        let mut i: usize = 0;
-        while i < 8 {
-            let to = 8 * k + i;
-            pages[to] = run.ring.first.pages_on(at);
-            at = run.ring.behind(at);
-            i += 1;
+    // A page in each entry, round the ring from its first.
+    pub fn show(self, window: &mut [Page])
+        requires { Closed self }
+        ensures { window.new ≡ tabulate (length window.old) (ring_page self) }
+    {
+        let mut at = 0;
+        for entry in window.iter_mut() {
+            *entry = self.first.pages_on(at);
+            at = self.behind(at);
         }
-        k += 1;
     }
-    pages
 }

@@ -24,6 +24,10 @@ abbrev pub entry_count : Side → ℕ
 entry_count cpu = 64
 entry_count picture = 16
 
+-- in a table of so many entries, the one at address / 1,024 modulo that count (01, Paging 2)
+abbrev pub entry_among : (count : ℕ) → List Page → (address : ℕ) → Page
+entry_among count table address = get_or table (address / 1024 % count) unmapped
+
 -- the entry at address / 1,024, modulo 64 or 16 (01, Paging 2)
 abbrev pub entry_for : Side → List Page → (address : ℕ) → Page
-entry_for s table address = get_or table (address / 1024 % entry_count s) unmapped
+entry_for s table address = entry_among (entry_count s) table address

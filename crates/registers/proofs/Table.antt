@@ -1,19 +1,12 @@
 -- The table of registers, row by row. Assumes nothing.
-use mathlib.Core.Path.{◌≡◌, refl, sym, ap, ◌∙◌}
+use mathlib.Core.Path.{◌≡◌, sym, ap, ◌∙◌}
 use mathlib.Core.Bool.{Bool}
 use Prim.Native.Nat.{ℕ, zero, suc, ◌+◌, ◌*◌, ◌/◌, ◌≤◌, ◌<◌}
 use native.Mathlib.Omega.{arith}
 use lib.ListN.{drop, replicate, get_or-replicate, get_or-append}
-use Rattle.registers.specs.declared.ChannelRegister.TheVariants.{FrequencyHigh}
 use Rattle.registers.specs.declared.Register.{Register}
 use Rattle.registers.specs.declared.Register.TheVariants.{Nothing}
-use Rattle.registers.specs.Decode.{channel_register, decode, lines, register_at, registers}
-
--- the third register of a channel
-pub high : (line : ℕ) → (line ≡ 0 → ⊥) → (line ≡ 1 → ⊥) → FrequencyHigh ≡ channel_register line
-high zero n m = absurd (n refl)
-high (suc zero) n m = absurd (m refl)
-high (suc (suc k)) n m = refl
+use Rattle.registers.specs.Decode.{decode, lines, register_at, registers}
 
 by_three : (P : ℕ → Type 0) → P 0 → P 1 → P 2 → (n : ℕ) → n < 3 → P n
 by_three P a b c zero h = a

@@ -7,7 +7,7 @@ ghost use Rattle.registers.specs.declared.Register.TheVariants.{OfBank};
 ghost use Rattle.registers.specs.Decode.{channel_register, decode, lines};
 
 // The eleven bank registers.
-#[derive(Clone, Copy)]
+#[derive(Clone, Copy, PartialEq, Eq)]
 pub enum BankRegister {
     // $8000..3, the 16 KiB bank at $8000.
     Prg16,
@@ -20,7 +20,7 @@ pub enum BankRegister {
 }
 
 // The three registers that both pulses and the saw have.
-#[derive(Clone, Copy)]
+#[derive(Clone, Copy, PartialEq, Eq)]
 pub enum ChannelRegister {
     // $9000 and $A000, volume and duty; $B000, the saw's rate.
     Volume,
@@ -31,7 +31,7 @@ pub enum ChannelRegister {
 }
 
 // The ten sound registers.
-#[derive(Clone, Copy)]
+#[derive(Clone, Copy, PartialEq, Eq)]
 pub enum AudioRegister {
     // $9000..2.
     Pulse1(ChannelRegister),
@@ -44,7 +44,7 @@ pub enum AudioRegister {
 }
 
 // The three interrupt registers.
-#[derive(Clone, Copy)]
+#[derive(Clone, Copy, PartialEq, Eq)]
 pub enum IrqRegister {
     // $F000.
     Reload,
@@ -55,7 +55,7 @@ pub enum IrqRegister {
 }
 
 // What a write reaches: nothing below $8000, at $A003 and at $F003.
-#[derive(Clone, Copy)]
+#[derive(Clone, Copy, PartialEq, Eq)]
 pub enum Register {
     Nothing,
     OfBank(BankRegister),
@@ -68,9 +68,10 @@ fn lines(revision_b: bool, addr: u16) -> u16
     ensures { (result ≡ lines revision_b addr) × (result < 4) }
 {
     if revision_b {
-        return addr % 2 * 2 + addr / 2 % 2;
+        addr % 2 * 2 + addr / 2 % 2
+    } else {
+        addr % 4
     }
-    addr % 4
 }
 
 // The three registers that pulses and the saw have alike.
@@ -96,36 +97,20 @@ fn chr_register(first: u8, line: u16) -> Register
 pub fn decode(revision_b: bool, addr: u16) -> Register
     ensures { result ≡ decode revision_b addr }
 {
-    let line = lines(revision_b, addr);
-    match addr / 0x1000 {
-        0x8 => Register::OfBank(BankRegister::Prg16),
-        0x9 => {
-            if line < 3 {
-                return Register::OfAudio(AudioRegister::Pulse1(channel_register(line)));
-            }
-            Register::OfAudio(AudioRegister::Halt)
-        }
-        0xA => {
-            if line < 3 {
-                return Register::OfAudio(AudioRegister::Pulse2(channel_register(line)));
-            }
-            Register::Nothing
-        }
-        0xB => {
-            if line < 3 {
-                return Register::OfAudio(AudioRegister::OfSaw(channel_register(line)));
-            }
-            Register::OfBank(BankRegister::Mode)
-        }
-        0xC => Register::OfBank(BankRegister::Prg8),
-        0xD => chr_register(0, line),
-        0xE => chr_register(4, line),
-        0xF => match line {
-            0 => Register::OfIrq(IrqRegister::Reload),
-            1 => Register::OfIrq(IrqRegister::Control),
-            2 => Register::OfIrq(IrqRegister::Acknowledge),
-            _ => Register::Nothing,
-        },
+    match (addr / 0x1000, lines(revision_b, addr)) {
+        (0x8, _) => Register::OfBank(BankRegister::Prg16),
+        (0x9, 3) => Register::OfAudio(AudioRegister::Halt),
+        (0x9, line) => Register::OfAudio(AudioRegister::Pulse1(channel_register(line))),
+        (0xA, 3) => Register::Nothing,
+        (0xA, line) => Register::OfAudio(AudioRegister::Pulse2(channel_register(line))),
+        (0xB, 3) => Register::OfBank(BankRegister::Mode),
+        (0xB, line) => Register::OfAudio(AudioRegister::OfSaw(channel_register(line))),
+        (0xC, _) => Register::OfBank(BankRegister::Prg8),
+        (0xD, line) => chr_register(0, line),
+        (0xE, line) => chr_register(4, line),
+        (0xF, 0) => Register::OfIrq(IrqRegister::Reload),
+        (0xF, 1) => Register::OfIrq(IrqRegister::Control),
+        (0xF, 2) => Register::OfIrq(IrqRegister::Acknowledge),
         _ => Register::Nothing,
     }
 }

@@ -1,4 +1,5 @@
-// The steps of a sheet, played on a board.
+// The steps of a sheet, played on a board. Both buffers are parameters of their own, as in the board's calls: they are lent, and a
+// write changes one of them.
 #![tactic(auto)]
 
 pub mod ended;

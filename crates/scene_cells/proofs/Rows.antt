@@ -1,9 +1,25 @@
--- The examples, computed. Assumes nothing.
+-- The names of columns, and the examples, computed. Assumes nothing.
 use mathlib.Core.Path.{refl}
 use Rattle.text_words.specs.Names.{place_in}
+use Rattle.scene_cells.specs.declared.columns.Column.TheVariants.{Scene, Prg, Chr, Revision, Mirroring, Writes, Window, Letters, Menu, File, At, Interrupts}
 use Rattle.scene_cells.specs.Cells.{plain_cell, quoted_cell}
-use Rattle.scene_cells.specs.Laws.{CellExamples, SeparatorExamples, SpaceExamples}
+use Rattle.scene_cells.specs.Laws.{CellExamples, ColumnLaw, SeparatorExamples, SpaceExamples}
 use Rattle.scene_cells.specs.Rows.{cells_of}
+
+pub column_law : ColumnLaw
+unfolding place_in
+column_law Scene = refl
+column_law Prg = refl
+column_law Chr = refl
+column_law Revision = refl
+column_law Mirroring = refl
+column_law Writes = refl
+column_law Window = refl
+column_law Letters = refl
+column_law Menu = refl
+column_law File = refl
+column_law At = refl
+column_law Interrupts = refl
 
 pub examples : CellExamples
 unfolding plain_cell quoted_cell place_in

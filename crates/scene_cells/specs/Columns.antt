@@ -14,6 +14,21 @@ names = codes "scene prg chr revision mirroring writes window letters menu file 
 abbrev pub columns : List Column
 columns = Scene ∷ Prg ∷ Chr ∷ Revision ∷ Mirroring ∷ Writes ∷ Window ∷ Letters ∷ Menu ∷ File ∷ At ∷ Interrupts ∷ []
 
+-- a column's name (docs/SCENES.md)
+abbrev pub column_name : Column → List ℕ
+column_name Scene = codes "scene"
+column_name Prg = codes "prg"
+column_name Chr = codes "chr"
+column_name Revision = codes "revision"
+column_name Mirroring = codes "mirroring"
+column_name Writes = codes "writes"
+column_name Window = codes "window"
+column_name Letters = codes "letters"
+column_name Menu = codes "menu"
+column_name File = codes "file"
+column_name At = codes "at"
+column_name Interrupts = codes "interrupts"
+
 -- the column with a name (docs/SCENES.md)
 abbrev pub column_named : List ℕ → Option Column
 column_named word = option_and_then (slice_get columns) (place_in names word)

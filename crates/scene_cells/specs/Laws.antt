@@ -2,10 +2,11 @@
 use Rattle.std.specs.Prelude.{◌≡◌, true, false, cond, List, [], ◌∷◌, ◌++◌, ℕ, eqb, Some, None}
 use Rattle.text_words.specs.Names.{codes}
 use Rattle.scene_cells.specs.declared.CellFault.TheVariants.{Unclosed, BehindQuote}
+use Rattle.scene_cells.specs.declared.columns.Column.{Column}
 use Rattle.scene_cells.specs.declared.columns.Column.TheVariants.{Menu, File, Interrupts}
 use Rattle.scene_cells.specs.Cells.{behind_break, cell_of, ends_row, is_break}
 use Rattle.scene_cells.specs.Choices.{interrupts_of, mirroring_of, revision_of}
-use Rattle.scene_cells.specs.Columns.{column_of}
+use Rattle.scene_cells.specs.Columns.{column_name, column_of}
 use Rattle.scene_cells.specs.Separators.{is_sep_line, separator_of}
 use Rattle.scene_cells.specs.Spaces.{with_spaces}
 
@@ -26,6 +27,10 @@ RoundTripLaw =
     (separator : ℕ) → (separator ≡ 34 → ⊥) → (bytes text : List ℕ) → BreakNext separator text
     → cell_of separator (34 ∷ (doubled bytes ++ (34 ∷ text)))
     ≡ record { bytes = doubled bytes; rest = behind_break text; quoted = true; last = ends_row text; wrong = None }
+
+-- a cell with a column's name names the column
+abbrev pub ColumnLaw : Type 0
+ColumnLaw = (column : Column) → column_of (column_name column) ≡ Some column
 
 -- cells and names (docs/SCENES.md)
 pub record CellExamples : Type 0 where

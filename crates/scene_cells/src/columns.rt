@@ -1,6 +1,6 @@
 // The columns of a sheet, by the names in its first row.
-ghost use Rattle.std.specs.Prelude.{◌≡◌};
-ghost use Rattle.scene_cells.specs.Columns.{column_of};
+ghost use Rattle.std.specs.Prelude.{◌≡◌, Some};
+ghost use Rattle.scene_cells.specs.Columns.{column_name, column_of};
 
 use std::fmt;
 use text_words::names::place_in;
@@ -38,20 +38,12 @@ pub const COLUMNS: [Column; 12] = [
     Column::Interrupts,
 ];
 
-// The column that a cell of the first row names by its only word.
-pub fn column_of(cell: &[u8]) -> Option<Column>
-    ensures { result ≡ column_of cell.now }
-{
-    let place = place_in(
-        b"scene prg chr revision mirroring writes window letters menu file at interrupts",
-        only_word(cell)?,
-    )?;
-    COLUMNS.get(place).copied()
-}
-
-impl fmt::Display for Column {
-    fn fmt<W: fmt::Write>(&self, f: &mut fmt::Formatter<W>) -> fmt::Result {
-        let name = match self {
+impl Column {
+    // Its name, in small letters.
+    pub fn name(self) -> &'static str
+        ensures { result.now ≡ column_name self }
+    {
+        match self {
             Column::Scene => "scene",
             Column::Prg => "prg",
             Column::Chr => "chr",
@@ -64,7 +56,25 @@ impl fmt::Display for Column {
             Column::File => "file",
             Column::At => "at",
             Column::Interrupts => "interrupts",
-        };
-        f.write_str(name)
+        }
     }
+}
+
+impl fmt::Display for Column {
+    ghost output = { λ column. Some (column_name column) };
+
+    fn fmt<W: fmt::Write>(&self, f: &mut fmt::Formatter<W>) -> fmt::Result {
+        f.write_str(self.name())
+    }
+}
+
+// The column that a cell of the first row names by its only word.
+pub fn column_of(cell: &[u8]) -> Option<Column>
+    ensures { result ≡ column_of cell.now }
+{
+    let place = place_in(
+        b"scene prg chr revision mirroring writes window letters menu file at interrupts",
+        only_word(cell)?,
+    )?;
+    COLUMNS.get(place).copied()
 }

@@ -24,11 +24,10 @@ use Rattle.vrc6_ledger.specs.Ledger.{Event, cpu_writes, picture_writes, clocks, 
 use Rattle.vrc6_ledger.specs.Demand3.{weight, clock_count, start}
 use Rattle.vrc6_ledger.proofs.Whole.{demand3}
 use Rattle.scene_steps.specs.declared.step.Step.{Step}
-use Rattle.scene_steps.specs.declared.step.Step.TheVariants.{Write, Clocks, Reset, Wrong}
-use Rattle.scene_steps.specs.Steps.{step_coded}
+use Rattle.scene_steps.specs.declared.step.Step.TheVariants.{Write, Clocks, Reset}
 use Rattle.scene_board.specs.Played.{step_calls, calls_of}
 use Rattle.scene_laws.specs.Counter.{counter_by}
-use Rattle.scene_laws.specs.Rises.{ByteEvent, HeldFound, Loss, LossFound, OfByte, Waits, calls_around, calls_up_to, came_at, cleared_at, loss_in, rises_at}
+use Rattle.scene_laws.specs.Rises.{ByteEvent, ByteStep, HeldFound, Loss, LossFound, OfByte, Waits, calls_around, calls_up_to, came_at, cleared_at, loss_in, rises_at}
 use Rattle.scene_laws.specs.Laws.{CameLaw, Comes, Loses, RiseLaw, SingleLaw}
 use Rattle.scene_laws.proofs.Boarded.{counter_law}
 use Rattle.scene_laws.proofs.Runs.{Fine, Ready, fine_clocked, fine_taken, fine_zero, taken_clear, ready_after, rises, quiet, quiet_due}
@@ -67,14 +66,13 @@ light_step : (s : Step) → Light (step_calls s)
 light_step (Write a v) = (omega arith, tt)
 light_step (Clocks n) = light_clocks n
 light_step Reset = (omega arith, tt)
-light_step (Wrong n) = tt
 
-light_calls : (codes : List ℕ) → Light (calls_of codes)
+light_calls : (steps : List Step) → Light (calls_of steps)
 light_calls [] = tt
-light_calls (code ∷ codes) = light_joined (step_calls (step_coded code)) (calls_of codes) (light_step (step_coded code)) (light_calls codes)
+light_calls (s ∷ steps) = light_joined (step_calls s) (calls_of steps) (light_step s) (light_calls steps)
 
 pub single_law : SingleLaw
-single_law k codes m = light_joined (replicate k Clock) _ (light_clocks k) (light_joined (calls_of codes) _ (light_calls codes) (light_clocks m))
+single_law k steps m = light_joined (replicate k Clock) _ (light_clocks k) (light_joined (calls_of steps) _ (light_calls steps) (light_clocks m))
 
 -- ---- no call of a list is refused
 abbrev pub Accepted : State → List Call → Type 0
@@ -124,40 +122,40 @@ carried_loss (k ∷ ks) x n h =
     ∙ ap₂ (λ (b : Bool) (q : VrcIrq). cond q.irq_pending (falls b q ks t t) (loses b q ks t)) law.revision law.counter
 
 -- ---- a board that refuses no call of the run
-on_board : (x : State) (k : ℕ) (codes : List ℕ) (m : ℕ) → Accepted x (calls_around k codes m) → Fine x.board.irq → Waits x.board.irq k
-    → k + clock_count (calls_of codes) + 100_000 < 2 ^ 32 → Comes x k codes m
-on_board x k codes m h f w room =
+on_board : (x : State) (k : ℕ) (steps : List Step) (m : ℕ) → Each ByteStep steps → Accepted x (calls_around k steps m) → Fine x.board.irq → Waits x.board.irq k
+    → k + clock_count (calls_of steps) + 100_000 < 2 ^ 32 → Comes x k steps m
+on_board x k steps m o h f w room =
     let b = x.board.banking.revision_b in
     let q = x.board.irq in
     let p = irq_clocked_times line_step line_length k q in
-    let rest = calls_of codes ++ replicate m Clock in
+    let rest = calls_of steps ++ replicate m Clock in
     let ready : Ready q = record { fine = f; clear = w.clear } in
     let still = quiet_due q f k w.not_yet in
-    found_same (came_at b q k codes) (k + clock_count rest) (clock_count (calls_around k codes m)) (rises b p rest k) (rises_at x (calls_around k codes m) 0)
+    found_same (came_at b q k steps) (k + clock_count rest) (clock_count (calls_around k steps m)) (rises b p rest k) (rises_at x (calls_around k steps m) 0)
     (count_joined (replicate k Clock) rest ∙ ap (λ (n : ℕ). n + clock_count rest) (count_run k))
-    (carried (calls_around k codes m) x 0 h ∙ quiet b k q rest 0 ready still ∙ ap (rises b p rest) (zero-add k))
-    (told b m codes p k (ready_after k q ready still) room)
+    (carried (calls_around k steps m) x 0 h ∙ quiet b k q rest 0 ready still ∙ ap (rises b p rest) (zero-add k))
+    (told b m steps p k (ready_after k q ready still) o room)
 
-lost_on_board : (x : State) (k : ℕ) (codes : List ℕ) → Accepted x (calls_up_to k codes) → Fine x.board.irq → Waits x.board.irq k
-    → k + clock_count (calls_of codes) + 100_000 < 2 ^ 32 → Loses x k codes
-lost_on_board x k codes h f w room =
+lost_on_board : (x : State) (k : ℕ) (steps : List Step) → Each ByteStep steps → Accepted x (calls_up_to k steps) → Fine x.board.irq → Waits x.board.irq k
+    → k + clock_count (calls_of steps) + 100_000 < 2 ^ 32 → Loses x k steps
+lost_on_board x k steps o h f w room =
     let b = x.board.banking.revision_b in
     let q = x.board.irq in
     let ready : Ready q = record { fine = f; clear = w.clear } in
     let still = quiet_due q f k w.not_yet in
-    subst (LossFound (came_at b q k codes))
+    subst (LossFound (came_at b q k steps))
     (sym
-    (carried_loss (calls_up_to k codes) x 0 h
-    ∙ quiet_loss b k q (calls_of codes) 0 ready still
-    ∙ ap (loses b (irq_clocked_times line_step line_length k q) (calls_of codes)) (zero-add k)))
-    (loss_told b codes (irq_clocked_times line_step line_length k q) k (ready_after k q ready still) (omega arith))
+    (carried_loss (calls_up_to k steps) x 0 h
+    ∙ quiet_loss b k q (calls_of steps) 0 ready still
+    ∙ ap (loses b (irq_clocked_times line_step line_length k q) (calls_of steps)) (zero-add k)))
+    (loss_told b steps (irq_clocked_times line_step line_length k q) k (ready_after k q ready still) o (omega arith))
 
-held_on_board : (x : State) (k : ℕ) (codes : List ℕ) → k + clock_count (calls_of codes) + 100_000 < 2 ^ 32
-    → HeldFound (came_at x.board.banking.revision_b x.board.irq k codes) (clock_count (calls_up_to k codes))
-held_on_board x k codes room =
-    let all : k + clock_count (calls_of codes) ≡ clock_count (calls_up_to k codes) = omega (arith, count_joined (replicate k Clock) (calls_of codes), count_run k) in
-    subst (HeldFound (came_at x.board.banking.revision_b x.board.irq k codes)) all
-    (held_told x.board.banking.revision_b codes (irq_clocked_times line_step line_length k x.board.irq) k (omega arith))
+held_on_board : (x : State) (k : ℕ) (steps : List Step) → k + clock_count (calls_of steps) + 100_000 < 2 ^ 32
+    → HeldFound (came_at x.board.banking.revision_b x.board.irq k steps) (clock_count (calls_up_to k steps))
+held_on_board x k steps room =
+    let all : k + clock_count (calls_of steps) ≡ clock_count (calls_up_to k steps) = omega (arith, count_joined (replicate k Clock) (calls_of steps), count_run k) in
+    subst (HeldFound (came_at x.board.banking.revision_b x.board.irq k steps)) all
+    (held_told x.board.banking.revision_b steps (irq_clocked_times line_step line_length k x.board.irq) k (omega arith))
 
 -- the counter of a new board
 pub first_fine : (c : Creation) → (create c).refusal ≡ 0 → Fine (start c).board.irq
@@ -165,16 +163,16 @@ first_fine c h =
     subst (λ (n : ℕ). Fine (unless n (new_board c.layout c.settings) zero_board).irq) (sym h) fine_zero
 
 pub came_law : CameLaw
-came_law c h ws o k w codes room m =
+came_law c h ws o k w steps bytes room m =
     let fine = fine_behind ws (start c) (demand3 c h ws).accepted o (first_fine c h) in
     record {
       comes =
-          on_board (after (start c) ws) k codes m
-          (accepted_behind ws (start c) (calls_around k codes m) (demand3 c h (ws ++ calls_around k codes m)).accepted)
+          on_board (after (start c) ws) k steps m bytes
+          (accepted_behind ws (start c) (calls_around k steps m) (demand3 c h (ws ++ calls_around k steps m)).accepted)
           fine w room;
       loses =
-          lost_on_board (after (start c) ws) k codes
-          (accepted_behind ws (start c) (calls_up_to k codes) (demand3 c h (ws ++ calls_up_to k codes)).accepted)
+          lost_on_board (after (start c) ws) k steps bytes
+          (accepted_behind ws (start c) (calls_up_to k steps) (demand3 c h (ws ++ calls_up_to k steps)).accepted)
           fine w room;
-      held = held_on_board (after (start c) ws) k codes room;
+      held = held_on_board (after (start c) ws) k steps room;
     }

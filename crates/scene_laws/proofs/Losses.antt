@@ -3,10 +3,13 @@ use mathlib.Core.Path.{◌≡◌, refl, sym, ap, ap₂, subst, ◌∙◌}
 use mathlib.Core.Bool.{Bool, true, false, cond, not, ◌||◌}
 use mathlib.Core.List.{List, [], ◌∷◌, ◌++◌, append_assoc}
 use mathlib.Core.Option.{Option, none, some}
-use Prim.Native.Nat.{ℕ, zero, suc, ◌+◌, ◌-◌, ◌/◌, ◌%◌, ◌^◌, ◌≤◌, ◌<◌}
+use Prim.Native.Nat.{ℕ, zero, suc, ◌+◌, ◌-◌, ◌^◌, ◌≤◌, ◌<◌}
 use native.Mathlib.Nat.{add-zero}
 use native.Mathlib.Omega.{arith}
-use lib.Dec.{eqb}
+use lib.Dec.{leb}
+use borrow.Author.Tests.{leb-true}
+use Rattle.std.proofs.Common.{Option as Due, Some, None}
+use Rattle.base_shared.specs.Lists.{Each}
 use lib.ListN.{replicate, replicate-append-replicate}
 use Rattle.base_shared.proofs.Tests.{either, tested}
 use Rattle.base_steps.specs.Times.{times}
@@ -26,17 +29,16 @@ use Rattle.vrc6_calls.specs.declared.Call.TheVariants.{CpuWrite, Clock, SoftRese
 use Rattle.vrc6_ledger.specs.Ledger.{event}
 use Rattle.vrc6_ledger.specs.Demand3.{weight, clock_count}
 use Rattle.scene_steps.specs.declared.step.Step.{Step}
-use Rattle.scene_steps.specs.declared.step.Step.TheVariants.{Write, Clocks, Reset, Wrong}
-use Rattle.scene_steps.specs.Steps.{step_coded}
+use Rattle.scene_steps.specs.declared.step.Step.TheVariants.{Write, Clocks, Reset}
 use Rattle.scene_board.specs.Played.{calls_of, step_calls}
 use Rattle.scene_moments.specs.declared.moment.Came.{Came}
-use Rattle.scene_moments.specs.declared.moment.Came.TheVariants.{Held, Lost}
 use Rattle.scene_moments.specs.declared.moment.Moment.{Moment}
-use Rattle.scene_moments.specs.Moments.{added, came, clears, clocks_due, coming_in, due_within, ended, lost_at, menu_played, moment, pending_at, step_pending, step_taken, waited}
+use Rattle.scene_moments.specs.declared.moment.Moment.TheVariants.{Waiting, Pending, Cleared}
+use Rattle.scene_moments.specs.Moments.{added, came, clears, clocks_due, coming_in, due_within, ended, gone_by, menu_played, step_pending, step_taken, waited_for}
 use Rattle.scene_laws.specs.Counter.{counter_after}
-use Rattle.scene_laws.specs.Rises.{HeldFound, Loss, LossFound}
-use Rattle.scene_laws.proofs.Runs.{Quiet, Ready, clocked_clear, first_due, quiet_due, ready_after, ready_clocked, ready_taken, ready_zero, shift, within}
-use Rattle.scene_laws.proofs.Walks.{ByteStep, byte_step, count_joined, count_run, not_over, stays_lost}
+use Rattle.scene_laws.specs.Rises.{ByteStep, HeldFound, Loss, LossFound}
+use Rattle.scene_laws.proofs.Runs.{Quiet, Ready, clocked_clear, first_due, quiet_due, ready_after, ready_clocked, ready_taken, ready_zero, shift}
+use Rattle.scene_laws.proofs.Walks.{count_joined, count_run, not_over, stays_lost}
 
 -- ---- both walks on the counter alone
 abbrev pub falls : (revision_b : Bool) → VrcIrq → List Call → (s n : ℕ) → Option Loss
@@ -145,168 +147,182 @@ module _ (b : Bool) where
       (sets_after e (n - suc e) q rest j r f, set_by e (n - suc e) q f)
 
   -- ---- the handler's steps while it is pending
-  module _ (s : ℕ) (p : VrcIrq) where
+  module _ (s : ℕ) where
     -- what the walk must find, from a counter at a clock
-    abbrev Found : Moment → VrcIrq → (clock : ℕ) → (codes : List ℕ) → List Call → Type 0
-    Found m q clock codes ks = LossFound (ended (menu_played b codes m)) (falls b q ks s clock)
+    abbrev Found : Moment → VrcIrq → (clock : ℕ) → (steps : List Step) → List Call → Type 0
+    Found m q clock steps ks = LossFound (ended (menu_played b steps m)) (falls b q ks s clock)
 
     -- a call that clears it
-    by_clear : (codes : List ℕ) (q : VrcIrq) (clock : ℕ) (k : Call) → weight (event k) ≡ 0 → (counter_after b k q).irq_pending ≡ false
-        → Found (lost_at (pending_at p clock s)) q clock codes (k ∷ calls_of codes)
-    by_clear codes q clock k w h =
+    by_clear : (steps : List Step) (q : VrcIrq) (clock : ℕ) (k : Call) → weight (event k) ≡ 0 → (counter_after b k q).irq_pending ≡ false
+        → Found (Cleared s clock) q clock steps (k ∷ calls_of steps)
+    by_clear steps q clock k w h =
         let now : clock + weight (event k) ≡ clock = omega (arith, w) in
-        subst (λ (m : Moment). LossFound (ended m) (falls b q (k ∷ calls_of codes) s clock)) (sym (stays_lost b codes (lost_at (pending_at p clock s)) refl))
-        (ap (λ (c : Bool). cond c (falls b (counter_after b k q) (calls_of codes) s (clock + weight (event k))) (some (record { set = s; cleared = clock + weight (event k) }))) h
+        subst (λ (m : Moment). LossFound (ended m) (falls b q (k ∷ calls_of steps) s clock)) (sym (stays_lost b steps s clock))
+        (ap (λ (c : Bool). cond c (falls b (counter_after b k q) (calls_of steps) s (clock + weight (event k))) (some (record { set = s; cleared = clock + weight (event k) }))) h
         ∙ ap (λ (t : ℕ). some (record { set = s; cleared = t })) now)
 
-    module _ (codes : List ℕ) (q : VrcIrq) (clock : ℕ) (up : Set q)
-        (again : (x : VrcIrq) (t : ℕ) → Set x → t + clock_count (calls_of codes) < 2 ^ 32 → Found (pending_at p t s) x t codes (calls_of codes)) where
+    module _ (steps : List Step) (q : VrcIrq) (clock : ℕ) (up : Set q)
+        (again : (x : VrcIrq) (t : ℕ) → Set x → t + clock_count (calls_of steps) < 2 ^ 32 → Found (Pending s t) x t steps (calls_of steps)) where
       -- a call that leaves it
-      by_call : (k : Call) → weight (event k) ≡ 0 → Set (counter_after b k q) → clock + clock_count (calls_of codes) < 2 ^ 32
-          → Found (pending_at p clock s) q clock codes (k ∷ calls_of codes)
+      by_call : (k : Call) → weight (event k) ≡ 0 → Set (counter_after b k q) → clock + clock_count (calls_of steps) < 2 ^ 32
+          → Found (Pending s clock) q clock steps (k ∷ calls_of steps)
       by_call k w h room =
           let now : clock + weight (event k) ≡ clock = omega (arith, w) in
           let x = counter_after b k q in
-          subst (LossFound (ended (menu_played b codes (pending_at p clock s))))
+          subst (LossFound (ended (menu_played b steps (Pending s clock))))
           (sym
-          (ap (λ (c : Bool). cond c (falls b x (calls_of codes) s (clock + weight (event k))) (some (record { set = s; cleared = clock + weight (event k) }))) h
-          ∙ ap (falls b x (calls_of codes) s) now))
+          (ap (λ (c : Bool). cond c (falls b x (calls_of steps) s (clock + weight (event k))) (some (record { set = s; cleared = clock + weight (event k) }))) h
+          ∙ ap (falls b x (calls_of steps) s) now))
           (again x clock h room)
 
-      by_step : (t : Step) → clock + clock_count (step_calls t ++ calls_of codes) < 2 ^ 32
-          → Found (step_pending b t (pending_at p clock s)) q clock codes (step_calls t ++ calls_of codes)
+      by_step : (t : Step) → clock + clock_count (step_calls t ++ calls_of steps) < 2 ^ 32
+          → Found (step_pending b t s clock) q clock steps (step_calls t ++ calls_of steps)
       by_step (Write a v) room =
           tested (clears (decode b a))
-          (λ e. rw e (by_clear codes q clock (CpuWrite a v) refl (taken_set (decode b a) v q up ∙ ap not e)))
+          (λ e. rw e (by_clear steps q clock (CpuWrite a v) refl (taken_set (decode b a) v q up ∙ ap not e)))
           (λ e. rw e (by_call (CpuWrite a v) refl (taken_set (decode b a) v q up ∙ ap not e) (omega arith)))
       by_step (Clocks n) room =
-          let fits : clock + n + clock_count (calls_of codes) < 2 ^ 32 = omega (arith, count_joined (replicate n Clock) (calls_of codes), count_run n) in
+          let fits : clock + n + clock_count (calls_of steps) < 2 ^ 32 = omega (arith, count_joined (replicate n Clock) (calls_of steps), count_run n) in
           rw (not_over clock n (omega arith))
-          (subst (LossFound (ended (menu_played b codes (pending_at p (clock + n) s)))) (sym (held n q (calls_of codes) s clock up))
+          (subst (LossFound (ended (menu_played b steps (Pending s (clock + n))))) (sym (held n q (calls_of steps) s clock up))
           (again (irq_clocked_times line_step line_length n q) (clock + n) (set_after n q up) fits))
-      by_step Reset room = by_clear codes q clock SoftReset refl refl
-      by_step (Wrong n) room = again q clock up room
+      by_step Reset room = by_clear steps q clock SoftReset refl refl
 
-    pub still_told : (codes : List ℕ) (q : VrcIrq) (clock : ℕ) → Set q → clock + clock_count (calls_of codes) < 2 ^ 32
-        → Found (pending_at p clock s) q clock codes (calls_of codes)
+    pub still_told : (steps : List Step) (q : VrcIrq) (clock : ℕ) → Set q → clock + clock_count (calls_of steps) < 2 ^ 32
+        → Found (Pending s clock) q clock steps (calls_of steps)
     still_told [] q clock up room = refl
-    still_told (code ∷ codes) q clock up room = by_step codes q clock up (λ x t u r. still_told codes x t u r) (step_coded code) room
+    still_told (t ∷ steps) q clock up room = by_step steps q clock up (λ x k u r. still_told steps x k u r) t room
 
   -- ---- before it has come
   abbrev Told : Came → VrcIrq → (clock : ℕ) → List Call → Type 0
   Told a q clock ks = LossFound a (loses b q ks clock)
 
-  none_left : (clock d : ℕ) → LossFound (coming_in clock d) none
-  none_left clock d = either (λ (a : Came). LossFound a none) (eqb d 0) refl refl
+  none_left : (clock : ℕ) (d : Due ℕ) → LossFound (coming_in clock d) none
+  none_left clock None = refl
+  none_left clock (Some d) = refl
 
-  module _ (codes : List ℕ) (q : VrcIrq) (clock : ℕ) (r : Ready q)
-      (again : (x : VrcIrq) (t : ℕ) → Ready x → t + clock_count (calls_of codes) < 2 ^ 32 → Told (came b codes (moment x t)) x t (calls_of codes)) where
-    pass : (k : Call) → Ready (counter_after b k q) → weight (event k) ≡ 0 → clock + clock_count (calls_of codes) < 2 ^ 32
-        → Told (came b codes (moment (counter_after b k q) clock)) q clock (k ∷ calls_of codes)
+  module _ (steps : List Step) (q : VrcIrq) (clock : ℕ) (r : Ready q)
+      (again : (x : VrcIrq) (t : ℕ) → Ready x → t + clock_count (calls_of steps) < 2 ^ 32 → Told (came b steps (Waiting x t)) x t (calls_of steps)) where
+    pass : (k : Call) → Ready (counter_after b k q) → weight (event k) ≡ 0 → clock + clock_count (calls_of steps) < 2 ^ 32
+        → Told (came b steps (Waiting (counter_after b k q) clock)) q clock (k ∷ calls_of steps)
     pass k f w room =
         let x = counter_after b k q in
         let now : clock + weight (event k) ≡ clock = omega (arith, w) in
-        subst (LossFound (came b codes (moment x clock)))
+        subst (LossFound (came b steps (Waiting x clock)))
         (sym
-        (ap (λ (t : ℕ). cond x.irq_pending (falls b x (calls_of codes) t t) (loses b x (calls_of codes) t)) now
-        ∙ ap (λ (c : Bool). cond c (falls b x (calls_of codes) clock clock) (loses b x (calls_of codes) clock)) f.clear))
+        (ap (λ (t : ℕ). cond x.irq_pending (falls b x (calls_of steps) t t) (loses b x (calls_of steps) t)) now
+        ∙ ap (λ (c : Bool). cond c (falls b x (calls_of steps) clock clock) (loses b x (calls_of steps) clock)) f.clear))
         (again x clock f room)
 
-    module _ (n : ℕ) (room : clock + clock_count (replicate n Clock ++ calls_of codes) < 2 ^ 32) where
-      fits : clock + n + clock_count (calls_of codes) < 2 ^ 32
-      fits = omega (arith, count_joined (replicate n Clock) (calls_of codes), count_run n)
+    module _ (n : ℕ) (room : clock + clock_count (replicate n Clock ++ calls_of steps) < 2 ^ 32) where
+      fits : clock + n + clock_count (calls_of steps) < 2 ^ 32
+      fits = omega (arith, count_joined (replicate n Clock) (calls_of steps), count_run n)
 
-      abbrev left : Moment
-      left = moment (irq_clocked_times line_step line_length n q) (added clock n)
+      -- what must hold of what the step leaves
+      abbrev Wanted : Moment → Type 0
+      Wanted x = Told (ended (menu_played b steps x)) q clock (replicate n Clock ++ calls_of steps)
 
-      comes_within : due_within n (clocks_due q) ≡ true → Told (ended (menu_played b codes (waited n (moment q clock)))) q clock (replicate n Clock ++ calls_of codes)
-      comes_within h =
-          let d = clocks_due q in
-          let low = within n d h in
-          let found = sets_within d n q (calls_of codes) clock r (first_due q r.fine n h) low in
-          rw (h, not_over clock n (omega (arith, fits)), not_over clock d (omega (arith, fits)))
-          (subst (LossFound (ended (menu_played b codes (pending_at q (clock + n) (clock + d))))) (sym found.0)
-          (still_told (clock + d) q codes (irq_clocked_times line_step line_length n q) (clock + n) found.1 fits))
+      comes_within : (d : ℕ) → clocks_due q ≡ Some d → d ≤ n → Wanted (Pending (added clock d) (added clock n))
+      comes_within d e low =
+          let found = sets_within d n q (calls_of steps) clock r (first_due q r.fine d e) low in
+          rw (not_over clock n (omega (arith, fits)), not_over clock d (omega (arith, fits)))
+          (subst (LossFound (ended (menu_played b steps (Pending (clock + d) (clock + n))))) (sym found.0)
+          (still_told (clock + d) steps (irq_clocked_times line_step line_length n q) (clock + n) found.1 fits))
 
-      goes_by : due_within n (clocks_due q) ≡ false → Told (ended (menu_played b codes (waited n (moment q clock)))) q clock (replicate n Clock ++ calls_of codes)
+      goes_by : due_within n (clocks_due q) ≡ false → Wanted (gone_by n q clock)
       goes_by h =
           let still = quiet_due q r.fine n h in
-          rw (h, not_over clock n (omega (arith, fits)))
-          (subst (LossFound (came b codes (moment (irq_clocked_times line_step line_length n q) (clock + n)))) (sym (quiet_loss n q (calls_of codes) clock r still))
+          rw (not_over clock n (omega (arith, fits)))
+          (subst (LossFound (came b steps (Waiting (irq_clocked_times line_step line_length n q) (clock + n)))) (sym (quiet_loss n q (calls_of steps) clock r still))
           (again (irq_clocked_times line_step line_length n q) (clock + n) (ready_after n q r still) fits))
 
-    take : (s : Step) → ByteStep s → clock + clock_count (step_calls s ++ calls_of codes) < 2 ^ 32
-        → Told (ended (menu_played b codes (step_taken b s (moment q clock)))) q clock (step_calls s ++ calls_of codes)
-    take (Write a v) h room = pass (CpuWrite a v) (ready_taken (decode b a) v q h r) refl (omega arith)
-    take (Clocks n) h room = tested (due_within n (clocks_due q)) (comes_within n room) (goes_by n room)
-    take Reset h room = pass SoftReset ready_zero refl (omega arith)
-    take (Wrong n) h room = again q clock r room
+      waits : (d : Due ℕ) → clocks_due q ≡ d → Wanted (waited_for d n q clock)
+      waits None e = goes_by (ap (due_within n) e)
+      waits (Some d) e =
+          let Chosen : Bool → Type 0 = λ c. Wanted (cond c (Pending (added clock d) (added clock n)) (gone_by n q clock)) in
+          tested (leb d n)
+          (λ h. subst Chosen (sym h) (comes_within d e (leb-true d n h)))
+          (λ h. subst Chosen (sym h) (goes_by (ap (due_within n) e ∙ h)))
 
-  pub loss_told : (codes : List ℕ) (q : VrcIrq) (clock : ℕ) → Ready q → clock + clock_count (calls_of codes) < 2 ^ 32
-      → Told (came b codes (moment q clock)) q clock (calls_of codes)
-  loss_told [] q clock r room = none_left clock (clocks_due q)
-  loss_told (code ∷ codes) q clock r room =
-      take codes q clock r (λ x t f l. loss_told codes x t f l) (step_coded code) (byte_step (code / 0x1000000) (code % 0x1000000)) room
+    take : (s : Step) → ByteStep s → clock + clock_count (step_calls s ++ calls_of steps) < 2 ^ 32
+        → Told (ended (menu_played b steps (step_taken b s q clock))) q clock (step_calls s ++ calls_of steps)
+    take (Write a v) h room = pass (CpuWrite a v) (ready_taken (decode b a) v q h r) refl (omega arith)
+    take (Clocks n) h room = waits n room (clocks_due q) refl
+    take Reset h room = pass SoftReset ready_zero refl (omega arith)
+
+  pub loss_told : (steps : List Step) (q : VrcIrq) (clock : ℕ) → Ready q → Each ByteStep steps → clock + clock_count (calls_of steps) < 2 ^ 32
+      → Told (came b steps (Waiting q clock)) q clock (calls_of steps)
+  loss_told [] q clock r o room = none_left clock (clocks_due q)
+  loss_told (s ∷ steps) q clock r o room = take steps q clock r (λ x t f l. loss_told steps x t f o.1 l) s o.0 room
 
   -- ---- one that is held ends with the handler
-  abbrev Ends : Moment → (codes : List ℕ) (clock : ℕ) → Type 0
-  Ends m codes clock = HeldFound (ended (menu_played b codes m)) (clock + clock_count (calls_of codes))
+  abbrev Ends : Moment → (steps : List Step) (clock : ℕ) → Type 0
+  Ends m steps clock = HeldFound (ended (menu_played b steps m)) (clock + clock_count (calls_of steps))
 
-  lost_ends : (codes : List ℕ) (m : Moment) (n : ℕ) → m.lost ≡ true → HeldFound (ended (menu_played b codes m)) n
-  lost_ends codes m n l =
-      subst (λ (x : Moment). HeldFound (ended x) n) (sym (stays_lost b codes m l))
-      (subst (λ (c : Bool). HeldFound (cond c (Lost m.set m.clock) (cond m.came (Held m.set m.clock) (coming_in m.clock (clocks_due m.irq)))) n) (sym l) tt)
+  lost_ends : (steps : List Step) (s clock n : ℕ) → HeldFound (ended (menu_played b steps (Cleared s clock))) n
+  lost_ends steps s clock n = subst (λ (x : Moment). HeldFound (ended x) n) (sym (stays_lost b steps s clock)) tt
 
   -- a call that is no clock
   light : (a : Came) (clock c : ℕ) → HeldFound a (clock + c) → HeldFound a (clock + (0 + c))
   light a clock c h = let same : clock + c ≡ clock + (0 + c) = omega arith in subst (HeldFound a) same h
 
   -- as many clocks go by in a step and behind it
-  ends_on : (m : Moment) (s : Step) (codes : List ℕ) (clock n : ℕ) → clock_count (step_calls s) ≡ n → Ends m codes (clock + n)
-      → HeldFound (ended (menu_played b codes m)) (clock + clock_count (step_calls s ++ calls_of codes))
-  ends_on m s codes clock n w h =
-      let same : clock + n + clock_count (calls_of codes) ≡ clock + clock_count (step_calls s ++ calls_of codes) =
-      omega (arith, count_joined (step_calls s) (calls_of codes), w) in
-      subst (HeldFound (ended (menu_played b codes m))) same h
+  ends_on : (m : Moment) (s : Step) (steps : List Step) (clock n : ℕ) → clock_count (step_calls s) ≡ n → Ends m steps (clock + n)
+      → HeldFound (ended (menu_played b steps m)) (clock + clock_count (step_calls s ++ calls_of steps))
+  ends_on m s steps clock n w h =
+      let same : clock + n + clock_count (calls_of steps) ≡ clock + clock_count (step_calls s ++ calls_of steps) =
+      omega (arith, count_joined (step_calls s) (calls_of steps), w) in
+      subst (HeldFound (ended (menu_played b steps m))) same h
 
-  module _ (s : ℕ) (p : VrcIrq) where
-    still_by : (codes : List ℕ) (clock : ℕ) → ((t : ℕ) → t + clock_count (calls_of codes) < 2 ^ 32 → Ends (pending_at p t s) codes t)
-        → (t : Step) → clock + clock_count (step_calls t ++ calls_of codes) < 2 ^ 32
-        → HeldFound (ended (menu_played b codes (step_pending b t (pending_at p clock s)))) (clock + clock_count (step_calls t ++ calls_of codes))
-    still_by codes clock again (Write a v) room =
+  module _ (s : ℕ) where
+    still_by : (steps : List Step) (clock : ℕ) → ((t : ℕ) → t + clock_count (calls_of steps) < 2 ^ 32 → Ends (Pending s t) steps t)
+        → (t : Step) → clock + clock_count (step_calls t ++ calls_of steps) < 2 ^ 32
+        → HeldFound (ended (menu_played b steps (step_pending b t s clock))) (clock + clock_count (step_calls t ++ calls_of steps))
+    still_by steps clock again (Write a v) room =
         tested (clears (decode b a))
-        (λ e. rw e (lost_ends codes (lost_at (pending_at p clock s)) _ refl))
-        (λ e. rw e (light (ended (menu_played b codes (pending_at p clock s))) clock (clock_count (calls_of codes)) (again clock (omega arith))))
-    still_by codes clock again (Clocks n) room =
-        let fits : clock + n + clock_count (calls_of codes) < 2 ^ 32 = omega (arith, count_joined (replicate n Clock) (calls_of codes), count_run n) in
-        rw (not_over clock n (omega arith)) (ends_on (pending_at p (clock + n) s) (Clocks n) codes clock n (count_run n) (again (clock + n) fits))
-    still_by codes clock again Reset room = lost_ends codes (lost_at (pending_at p clock s)) _ refl
-    still_by codes clock again (Wrong n) room = again clock room
+        (λ e. rw e (lost_ends steps s clock _))
+        (λ e. rw e (light (ended (menu_played b steps (Pending s clock))) clock (clock_count (calls_of steps)) (again clock (omega arith))))
+    still_by steps clock again (Clocks n) room =
+        let fits : clock + n + clock_count (calls_of steps) < 2 ^ 32 = omega (arith, count_joined (replicate n Clock) (calls_of steps), count_run n) in
+        rw (not_over clock n (omega arith)) (ends_on (Pending s (clock + n)) (Clocks n) steps clock n (count_run n) (again (clock + n) fits))
+    still_by steps clock again Reset room = lost_ends steps s clock _
 
-    still_ends : (codes : List ℕ) (clock : ℕ) → clock + clock_count (calls_of codes) < 2 ^ 32 → Ends (pending_at p clock s) codes clock
+    still_ends : (steps : List Step) (clock : ℕ) → clock + clock_count (calls_of steps) < 2 ^ 32 → Ends (Pending s clock) steps clock
     still_ends [] clock room = omega arith
-    still_ends (code ∷ codes) clock room = still_by codes clock (λ t r. still_ends codes t r) (step_coded code) room
+    still_ends (t ∷ steps) clock room = still_by steps clock (λ k r. still_ends steps k r) t room
 
-  none_held : (clock d n : ℕ) → HeldFound (coming_in clock d) n
-  none_held clock d n = either (λ (a : Came). HeldFound a n) (eqb d 0) tt tt
+  none_held : (clock : ℕ) (d : Due ℕ) (n : ℕ) → HeldFound (coming_in clock d) n
+  none_held clock None n = tt
+  none_held clock (Some d) n = tt
 
-  ends_by : (codes : List ℕ) (q : VrcIrq) (clock : ℕ) → ((x : VrcIrq) (t : ℕ) → t + clock_count (calls_of codes) < 2 ^ 32 → Ends (moment x t) codes t)
-      → (s : Step) → clock + clock_count (step_calls s ++ calls_of codes) < 2 ^ 32
-      → HeldFound (ended (menu_played b codes (step_taken b s (moment q clock)))) (clock + clock_count (step_calls s ++ calls_of codes))
-  ends_by codes q clock again (Write a v) room =
+  module _ (steps : List Step) (q : VrcIrq) (clock n : ℕ) (again : (x : VrcIrq) (t : ℕ) → t + clock_count (calls_of steps) < 2 ^ 32 → Ends (Waiting x t) steps t)
+      (fits : clock + n + clock_count (calls_of steps) < 2 ^ 32) where
+    abbrev EndsSo : Moment → Type 0
+    EndsSo x = HeldFound (ended (menu_played b steps x)) (clock + clock_count (replicate n Clock ++ calls_of steps))
+
+    goes_on : EndsSo (gone_by n q clock)
+    goes_on =
+        rw (not_over clock n (omega arith))
+        (ends_on (Waiting (irq_clocked_times line_step line_length n q) (clock + n)) (Clocks n) steps clock n (count_run n)
+        (again (irq_clocked_times line_step line_length n q) (clock + n) fits))
+
+    waits_on : (d : Due ℕ) → EndsSo (waited_for d n q clock)
+    waits_on None = goes_on
+    waits_on (Some d) =
+        either EndsSo (leb d n)
+        (rw (not_over clock n (omega arith)) (ends_on (Pending (added clock d) (clock + n)) (Clocks n) steps clock n (count_run n) (still_ends (added clock d) steps (clock + n) fits)))
+        goes_on
+
+  ends_by : (steps : List Step) (q : VrcIrq) (clock : ℕ) → ((x : VrcIrq) (t : ℕ) → t + clock_count (calls_of steps) < 2 ^ 32 → Ends (Waiting x t) steps t)
+      → (s : Step) → clock + clock_count (step_calls s ++ calls_of steps) < 2 ^ 32
+      → HeldFound (ended (menu_played b steps (step_taken b s q clock))) (clock + clock_count (step_calls s ++ calls_of steps))
+  ends_by steps q clock again (Write a v) room =
       let p = irq_written_to (decode b a) v q in
-      light (came b codes (moment p clock)) clock (clock_count (calls_of codes)) (again p clock (omega arith))
-  ends_by codes q clock again (Clocks n) room =
-      let fits : clock + n + clock_count (calls_of codes) < 2 ^ 32 = omega (arith, count_joined (replicate n Clock) (calls_of codes), count_run n) in
-      tested (due_within n (clocks_due q))
-      (λ h. rw (h, not_over clock n (omega arith))
-      (ends_on (pending_at q (clock + n) (added clock (clocks_due q))) (Clocks n) codes clock n (count_run n)
-      (still_ends (added clock (clocks_due q)) q codes (clock + n) fits)))
-      (λ h. rw (h, not_over clock n (omega arith))
-      (ends_on (moment (irq_clocked_times line_step line_length n q) (clock + n)) (Clocks n) codes clock n (count_run n) (again (irq_clocked_times line_step line_length n q) (clock + n) fits)))
-  ends_by codes q clock again Reset room = light (came b codes (moment irq_zero clock)) clock (clock_count (calls_of codes)) (again irq_zero clock (omega arith))
-  ends_by codes q clock again (Wrong n) room = again q clock room
+      light (came b steps (Waiting p clock)) clock (clock_count (calls_of steps)) (again p clock (omega arith))
+  ends_by steps q clock again (Clocks n) room =
+      waits_on steps q clock n again (omega (arith, count_joined (replicate n Clock) (calls_of steps), count_run n)) (clocks_due q)
+  ends_by steps q clock again Reset room = light (came b steps (Waiting irq_zero clock)) clock (clock_count (calls_of steps)) (again irq_zero clock (omega arith))
 
-  pub held_told : (codes : List ℕ) (q : VrcIrq) (clock : ℕ) → clock + clock_count (calls_of codes) < 2 ^ 32 → Ends (moment q clock) codes clock
+  pub held_told : (steps : List Step) (q : VrcIrq) (clock : ℕ) → clock + clock_count (calls_of steps) < 2 ^ 32 → Ends (Waiting q clock) steps clock
   held_told [] q clock room = none_held clock (clocks_due q) (clock + 0)
-  held_told (code ∷ codes) q clock room = ends_by codes q clock (λ x t r. held_told codes x t r) (step_coded code) room
+  held_told (s ∷ steps) q clock room = ends_by steps q clock (λ x t r. held_told steps x t r) s room

@@ -1,21 +1,20 @@
 -- Runs of clocks of the counter alone: the first that sets pending, or none. Assumes nothing.
 use mathlib.Core.Path.{◌≡◌, refl, sym, ap, ap₂, ◌∙◌}
-use mathlib.Core.Bool.{Bool, true, false, cond, not, ◌||◌}
+use mathlib.Core.Bool.{Bool, true, false, cond, ◌||◌}
 use mathlib.Core.List.{List, [], ◌∷◌, ◌++◌, append_assoc}
 use mathlib.Core.Option.{Option, none, some}
 use Prim.Native.Nat.{ℕ, zero, suc, ◌+◌, ◌-◌, ◌≤◌, ◌<◌}
 use native.Mathlib.Nat.{add-zero}
 use native.Mathlib.Omega.{arith}
-use lib.Dec.{eqb, leb}
+use Rattle.std.proofs.Common.{Some, max}
 use lib.ListN.{replicate, replicate-append-replicate}
-use borrow.Author.Tests.{leb-true, eqb-false, not-true}
-use Rattle.base_shared.proofs.Tests.{and_left, and_right, either, tested}
+use borrow.Author.Tests.{leb-true}
+use Rattle.base_shared.proofs.Tests.{either, tested}
 use Rattle.base_steps.specs.Times.{times}
 use Rattle.registers.specs.declared.Register.{Register}
 use Rattle.registers.specs.declared.Register.TheVariants.{Nothing, OfBank, OfAudio, OfIrq}
 use Rattle.registers.specs.declared.IrqRegister.TheVariants.{Reload, Control, Acknowledge}
 use Rattle.irq.specs.declared.VrcIrq.{VrcIrq}
-use Rattle.irq.specs.declared.IrqForecast.TheVariants.{None, In}
 use Rattle.irq.specs.Interrupt.{irq_in_range, irq_zero, forecast_in}
 use Rattle.irq.specs.Timing.{line_step, line_length, clock_answer}
 use Rattle.irq.specs.Laws.{Bytes}
@@ -29,8 +28,8 @@ use Rattle.vrc6_calls.specs.declared.Call.TheVariants.{Clock}
 use Rattle.vrc6_ledger.specs.Ledger.{event}
 use Rattle.vrc6_ledger.specs.Demand3.{weight}
 use Rattle.scene_laws.specs.Counter.{counter_after}
-use Rattle.scene_moments.specs.Moments.{clocks_due, due_from, due_within}
-use Rattle.scene_moments.proofs.Waiting.{undisturbed}
+use Rattle.scene_moments.specs.Moments.{clocks_due, due_within}
+use Rattle.scene_moments.proofs.Waiting.{due_off, due_on, undisturbed}
 use Rattle.scene_laws.proofs.Least.{clocks_due_law}
 
 -- ---- the counters that a board can hold
@@ -136,16 +135,10 @@ module _ (b : Bool) where
       ap (λ (k : ℕ). rises b q (replicate k Clock ++ rest) j) same ∙ sets_after e (n - suc e) q rest j r f
 
 -- ---- what is due
-pub within : (n d : ℕ) → due_within n d ≡ true → d ≤ n
-within n d h = leb-true d n (and_right (not (eqb d 0)) (leb d n) h)
-
 module _ (q : VrcIrq) (f : Fine q) where
   -- an interrupt that is due is due while enabled
-  pub first_due : (n : ℕ) → due_within n (clocks_due q) ≡ true → LeastClocks line_step line_length q (clocks_due q)
-  first_due n h =
-      let law = clocks_due_law q f.bytes.counter in
-      tested q.enabled (λ e. law.least e)
-      (λ e. absurd (eqb-false (clocks_due q) 0 (not-true (eqb (clocks_due q) 0) (and_left (not (eqb (clocks_due q) 0)) (leb (clocks_due q) n) h)) (law.never.1 e)))
+  pub first_due : (d : ℕ) → clocks_due q ≡ Some d → LeastClocks line_step line_length q d
+  first_due d e = (clocks_due_law q f.bytes.counter).least d e
 
   pub quiet_due : (n : ℕ) → due_within n (clocks_due q) ≡ false → Quiet n q
   quiet_due n h = (quiet_law line_step line_length n q f.bytes.counter).0 (undisturbed q n f.bytes.counter h)
@@ -155,9 +148,8 @@ module _ (q : VrcIrq) (f : Fine q) where
   short_wait =
       either (λ (k : ℕ). k ≤ 30_000) q.cycle_mode (omega arith) (omega (arith, leb-true q.prescalar_counter line_length f.range))
 
-  pub due_low : clocks_due q ≤ 30_000
-  due_low = go q.enabled
-    where
-      go : (b : Bool) → due_from (cond b (In (forecast_in line_step line_length q)) None) ≤ 30_000
-      go true = either (λ (k : ℕ). k ≤ 30_000) (eqb (forecast_in line_step line_length q) 0) (omega arith) short_wait
-      go false = omega arith
+  pub due_low : (d : ℕ) → clocks_due q ≡ Some d → d ≤ 30_000
+  due_low d e =
+      tested q.enabled
+      (λ h. let on = due_on q h in let same : max (forecast_in line_step line_length q) 1 ≡ d = cc in omega (arith, short_wait, same))
+      (λ h. let off = due_off q h in cc)

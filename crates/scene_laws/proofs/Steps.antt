@@ -1,206 +1,178 @@
 -- The step of a handler in which the interrupt comes. Assumes nothing.
 use mathlib.Core.Path.{◌≡◌, refl, sym, ap, subst, ◌∙◌}
-use mathlib.Core.Bool.{Bool, true, false, cond, not}
-use mathlib.Core.List.{List, [], ◌∷◌, ◌++◌, append-nil}
+use mathlib.Core.Bool.{Bool, true, false, cond}
+use mathlib.Core.List.{List, [], ◌∷◌, ◌++◌}
 use mathlib.Core.Option.{Option, none, some}
-use Prim.Native.Nat.{ℕ, zero, suc, ◌+◌, ◌^◌, ◌≤◌, ◌<◌}
+use Prim.Native.Nat.{ℕ, suc, ◌+◌, ◌^◌, ◌≤◌, ◌<◌}
 use native.Mathlib.Omega.{arith}
-use lib.Dec.{eqb, leb}
-use lib.ListN.{length, take, replicate}
-use borrow.Author.Tests.{eqb-false, not-true}
-use Rattle.base_shared.proofs.Tests.{and_left, tested}
+use lib.Dec.{leb}
+use Rattle.std.proofs.Common.{Option as Due, Some, None, option_map, max}
+use lib.ListN.{take, replicate}
+use borrow.Author.Tests.{leb-false, leb-true}
+use Rattle.base_shared.proofs.Tests.{tested}
 use Rattle.registers.specs.Decode.{decode}
 use Rattle.irq.specs.declared.VrcIrq.{VrcIrq}
 use Rattle.irq.specs.Interrupt.{irq_zero}
-use Rattle.irq.specs.Timing.{line_step, line_length}
+use Rattle.irq.specs.Timing.{forecast_answer, line_step, line_length}
 use Rattle.irq.specs.Writes.{irq_written_to}
 use Rattle.irq_clocks.specs.Clocks.{irq_clocked_times}
-use Rattle.vrc6_calls.specs.declared.Call.{Call}
 use Rattle.vrc6_calls.specs.declared.Call.TheVariants.{Clock}
 use Rattle.vrc6.specs.Boards.{State}
 use Rattle.vrc6_ledger.specs.Demand3.{clock_count, start}
 use Rattle.scene_steps.specs.declared.step.Step.{Step}
-use Rattle.scene_steps.specs.declared.step.Step.TheVariants.{Write, Clocks, Reset, Wrong}
-use Rattle.scene_steps.specs.Steps.{step_coded}
+use Rattle.scene_steps.specs.declared.step.Step.TheVariants.{Write, Clocks, Reset}
 use Rattle.scene_board.specs.Played.{calls_of, step_calls}
 use Rattle.scene_moments.specs.declared.moment.Came.{Came}
 use Rattle.scene_moments.specs.declared.moment.Came.TheVariants.{Never, On, Held, Lost}
 use Rattle.scene_moments.specs.declared.moment.Moment.{Moment}
-use Rattle.scene_moments.specs.Moments.{added, came, came_in, clears, clocks_due, due_within, ended, lost_at, menu_played, moment, pending_at, step_pending, step_taken}
+use Rattle.scene_moments.specs.declared.moment.Moment.TheVariants.{Waiting, Pending, Cleared}
+use Rattle.scene_moments.specs.Moments.{added, came, came_in, clears, clocks_due, due_from, ended, gone_by, has_come, menu_played, step_pending, stepped, waited_for}
 use Rattle.scene_moments.specs.Verdicts.{set_of}
 use Rattle.vrc6_calls.specs.Lists.{after}
 use Rattle.scene_laws.specs.Rises.{RiseFound, Waits, calls_around, came_at, rises_at}
 use Rattle.scene_laws.specs.Laws.{Comes}
-use Rattle.scene_laws.specs.Letters.{InStep, StepLaw, step_on}
+use Rattle.scene_laws.specs.Letters.{InStep, StepLaw}
 use Rattle.scene_laws.proofs.Comes.{came_law}
-use Rattle.scene_laws.proofs.Runs.{within}
 use Rattle.scene_laws.proofs.Walks.{count_joined, count_run, not_over, stays_lost}
 
 module _ (b : Bool) where
   -- ---- the clock that sets it stays
   module _ (s : ℕ) where
-    abbrev Kept : Moment → List ℕ → Type 0
-    Kept m codes = set_of (ended (menu_played b codes m)) ≡ s
+    abbrev Kept : Moment → List Step → Type 0
+    Kept m steps = set_of (ended (menu_played b steps m)) ≡ Some s
 
-    kept_lost : (codes : List ℕ) (q : VrcIrq) (clock : ℕ) → Kept (lost_at (pending_at q clock s)) codes
-    kept_lost codes q clock = ap (λ (m : Moment). set_of (ended m)) (stays_lost b codes (lost_at (pending_at q clock s)) refl)
+    kept_lost : (steps : List Step) (clock : ℕ) → Kept (Cleared s clock) steps
+    kept_lost steps clock = ap (λ (m : Moment). set_of (ended m)) (stays_lost b steps s clock)
 
-    kept_by : (codes : List ℕ) (q : VrcIrq) (clock : ℕ) → ((t : ℕ) → Kept (pending_at q t s) codes) → (t : Step) → Kept (step_pending b t (pending_at q clock s)) codes
-    kept_by codes q clock again (Write a v) = tested (clears (decode b a)) (λ e. rw e (kept_lost codes q clock)) (λ e. rw e (again clock))
-    kept_by codes q clock again (Clocks n) = again (added clock n)
-    kept_by codes q clock again Reset = kept_lost codes q clock
-    kept_by codes q clock again (Wrong n) = again clock
+    kept_by : (steps : List Step) (clock : ℕ) → ((t : ℕ) → Kept (Pending s t) steps) → (t : Step) → Kept (step_pending b t s clock) steps
+    kept_by steps clock again (Write a v) = tested (clears (decode b a)) (λ e. rw e (kept_lost steps clock)) (λ e. rw e (again clock))
+    kept_by steps clock again (Clocks n) = again (added clock n)
+    kept_by steps clock again Reset = kept_lost steps clock
 
-    kept : (codes : List ℕ) (q : VrcIrq) (clock : ℕ) → Kept (pending_at q clock s) codes
-    kept [] q clock = refl
-    kept (code ∷ codes) q clock = kept_by codes q clock (λ t. kept codes q t) (step_coded code)
+    kept : (steps : List Step) (clock : ℕ) → Kept (Pending s clock) steps
+    kept [] clock = refl
+    kept (t ∷ steps) clock = kept_by steps clock (λ k. kept steps k) t
 
   -- ---- steps are counted on
-  one_on : (c : Bool) (k x y z : ℕ) → x ≡ k + 1 + z → y ≡ 1 + z → cond c k x ≡ k + cond c 0 y
-  one_on true k x y z e f = omega arith
-  one_on false k x y z e f = omega (arith, e, f)
+  abbrev on : (k : ℕ) → Due ℕ → Due ℕ
+  on k z = option_map (λ j. k + j) z
 
-  -- the moment behind the first step
-  abbrev behind : (code : ℕ) → Moment → Moment
-  behind code m = menu_played b (code ∷ []) m
+  one_on : (c : Bool) (k : ℕ) (x y z : Due ℕ) → x ≡ on (k + 1) z → y ≡ on 1 z → cond c (Some k) x ≡ on k (cond c (Some 0) y)
+  one_on true k x y z e f = ap Some (omega arith)
+  one_on false k x y None e f = e ∙ sym (ap (on k) f)
+  one_on false k x y (Some z) e f = e ∙ ap Some (omega arith) ∙ sym (ap (on k) f)
 
-  counted_on : (codes : List ℕ) (m : Moment) (k : ℕ) → came_in b codes m k ≡ k + came_in b codes m 0
-  counted_on [] m k = omega arith
-  counted_on (code ∷ codes) m k =
-      one_on (behind code m).came k (came_in b codes (behind code m) (k + 1)) (came_in b codes (behind code m) 1) (came_in b codes (behind code m) 0)
-      (counted_on codes (behind code m) (k + 1)) (counted_on codes (behind code m) 1)
+  counted_on : (steps : List Step) (m : Moment) (k : ℕ) → came_in b steps m k ≡ on k (came_in b steps m 0)
+  counted_on [] m k = refl
+  counted_on (s ∷ steps) m k =
+      let x = stepped b s m in
+      one_on (has_come x) k (came_in b steps x (k + 1)) (came_in b steps x 1) (came_in b steps x 0) (counted_on steps x (k + 1)) (counted_on steps x 1)
+
+  -- the step before one that is counted on from 1
+  one_back : (z : Due ℕ) (i : ℕ) → on 1 z ≡ Some i → (j : ℕ) × (i ≡ suc j) × (z ≡ Some j)
+  one_back None i e = cc
+  one_back (Some j) i e = let same : 1 + j ≡ i = cc in (j, omega (arith, same), refl)
 
   -- ---- the step in which it comes
-  -- what must hold of the step that is named, from a counter at a clock
-  abbrev Found : (codes : List ℕ) → VrcIrq → (clock : ℕ) → Type 0
-  Found codes q clock = (i : ℕ) → i ≡ came_in b codes (moment q clock) 0 → i < length codes → InStep clock codes i (set_of (came b codes (moment q clock)))
+  -- what must hold of the step that is named, and of the clock that sets it, from a counter at a clock
+  abbrev Found : (steps : List Step) → VrcIrq → (clock : ℕ) → Type 0
+  Found steps q clock =
+      (i t : ℕ) → came_in b steps (Waiting q clock) 0 ≡ Some i → set_of (came b steps (Waiting q clock)) ≡ Some t → InStep clock steps i t
 
-  module _ (code : ℕ) (codes : List ℕ) (clock n : ℕ) (waits : clock_count (step_calls (step_coded code)) ≡ n) where
+  module _ (s : Step) (steps : List Step) (clock n : ℕ) (waits : clock_count (step_calls s) ≡ n) where
     -- the clocks of the first step, and of those behind it
-    first_waits : (j : ℕ) → clock_count (calls_of (take (suc j) (code ∷ codes))) ≡ n + clock_count (calls_of (take j codes))
-    first_waits j = omega (arith, count_joined (step_calls (step_coded code)) (calls_of (take j codes)), waits)
+    first_waits : (j : ℕ) → clock_count (calls_of (take (suc j) (s ∷ steps))) ≡ n + clock_count (calls_of (take j steps))
+    first_waits j = omega (arith, count_joined (step_calls s) (calls_of (take j steps)), waits)
 
     -- it comes in a step behind the first
-    later : (p : VrcIrq) (set : ℕ) → set ≡ set_of (came b codes (moment p (clock + n))) → Found codes p (clock + n)
-        → (i : ℕ) → i ≡ came_in b codes (moment p (clock + n)) 1 → i < suc (length codes) → InStep clock (code ∷ codes) i set
-    later p set e found zero h l = absurd (omega (arith, h, counted_on codes (moment p (clock + n)) 1))
-    later p set e found (suc j) h l =
-        let here = found j (omega (arith, h, counted_on codes (moment p (clock + n)) 1)) (omega arith) in
-        record {
-          behind = omega (arith, e, first_waits j, here.behind);
-          within = omega (arith, e, first_waits (suc j), here.within);
-        }
-
-  -- a wait, which the interrupt may end
-  module _ (code : ℕ) (codes : List ℕ) (q : VrcIrq) (clock n : ℕ) (e : step_coded code ≡ Clocks n)
-      (room : clock + clock_count (replicate n Clock ++ calls_of codes) < 2 ^ 32) (i : ℕ) (l : i < suc (length codes)) where
-    fits : clock + n + clock_count (calls_of codes) < 2 ^ 32
-    fits = omega (arith, count_joined (replicate n Clock) (calls_of codes), count_run n)
-
-    waits : clock_count (step_calls (step_coded code)) ≡ n
-    waits = ap (λ (x : Step). clock_count (step_calls x)) e ∙ count_run n
-
-    -- what the wait leaves, by whether the interrupt is due within it
-    abbrev chosen : Bool → Moment
-    chosen c = cond c (pending_at q (added clock n) (added clock (clocks_due q))) (moment (irq_clocked_times line_step line_length n q) (added clock n))
-
-    -- what must hold then
-    abbrev Wanted : Bool → Type 0
-    Wanted c =
-        i ≡ cond (chosen c).came 0 (came_in b codes (chosen c) 1)
-        → InStep clock (code ∷ codes) i (set_of (ended (menu_played b codes (chosen c))))
-
-    in_wait : due_within n (clocks_due q) ≡ true → Wanted true
-    in_wait d first =
-        let low : clocks_due q ≤ n = within n (clocks_due q) d in
-        let some_due = eqb-false (clocks_due q) 0 (not-true (eqb (clocks_due q) 0) (and_left (not (eqb (clocks_due q) 0)) (leb (clocks_due q) n) d)) in
-        let set : set_of (ended (menu_played b codes (chosen true))) ≡ clock + clocks_due q =
-        kept (added clock (clocks_due q)) codes q (added clock n) ∙ not_over clock (clocks_due q) (omega (arith, fits)) in
-        subst (λ (j : ℕ). InStep clock (code ∷ codes) j (set_of (ended (menu_played b codes (chosen true))))) (sym first)
+    later : (p : VrcIrq) → Found steps p (clock + n) → (i t : ℕ) → came_in b steps (Waiting p (clock + n)) 1 ≡ Some i
+        → set_of (came b steps (Waiting p (clock + n))) ≡ Some t → InStep clock (s ∷ steps) i t
+    later p found i t e f =
+        let back = one_back (came_in b steps (Waiting p (clock + n)) 0) i (sym (counted_on steps (Waiting p (clock + n)) 1) ∙ e) in
+        let here : InStep (clock + n) steps back.0 t = found back.0 t back.2 f in
+        subst (λ (k : ℕ). InStep clock (s ∷ steps) k t) (sym back.1)
         (record {
-          behind = omega (arith, set, some_due);
-          within = omega (arith, set, first_waits code codes clock n waits 0);
+          behind = omega (arith, first_waits back.0, here.behind);
+          within = omega (arith, first_waits (suc back.0), here.within);
         })
 
-    behind_wait : Found codes (irq_clocked_times line_step line_length n q) (clock + n) → Wanted false
-    behind_wait found h =
+  -- an interrupt that is due is due in a clock or more
+  some_due : (f : Due ℕ) (d : ℕ) → due_from f ≡ Some d → 1 ≤ d
+  some_due None d e = cc
+  some_due (Some n) d e = let same : max n 1 ≡ d = cc in omega (arith, same)
+
+  -- a wait, which the interrupt may end
+  module _ (steps : List Step) (q : VrcIrq) (clock n : ℕ) (room : clock + clock_count (replicate n Clock ++ calls_of steps) < 2 ^ 32)
+      (again : (p : VrcIrq) (t : ℕ) → t + clock_count (calls_of steps) < 2 ^ 32 → Found steps p t) (i t : ℕ) where
+    fits : clock + n + clock_count (calls_of steps) < 2 ^ 32
+    fits = omega (arith, count_joined (replicate n Clock) (calls_of steps), count_run n)
+
+    -- what must hold of what the wait leaves
+    abbrev Wanted : Moment → Type 0
+    Wanted x = cond (has_come x) (Some 0) (came_in b steps x 1) ≡ Some i → set_of (ended (menu_played b steps x)) ≡ Some t → InStep clock (Clocks n ∷ steps) i t
+
+    in_wait : (d : ℕ) → clocks_due q ≡ Some d → d ≤ n → Wanted (Pending (added clock d) (added clock n))
+    in_wait d e low first set =
+        let kept_here = kept (added clock d) steps (added clock n) in
+        let sum : added clock d ≡ clock + d = not_over clock d (omega (arith, fits)) in
+        let at : t ≡ added clock d = cc in
+        let zeroth : 0 ≡ i = cc in
+        let one : 1 ≤ d = some_due (forecast_answer q) d e in
+        subst (λ (k : ℕ). InStep clock (Clocks n ∷ steps) k t) zeroth
+        (record {
+          behind = omega (arith, at, sum, one);
+          within = omega (arith, at, sum, low, first_waits (Clocks n) steps clock n (count_run n) 0);
+        })
+
+    behind_wait : Wanted (gone_by n q clock)
+    behind_wait =
         let p = irq_clocked_times line_step line_length n q in
-        let room = not_over clock n (omega (arith, fits)) in
-        later code codes clock n waits p (set_of (came b codes (moment p (added clock n)))) (ap (λ (t : ℕ). set_of (came b codes (moment p t))) room) found i
-        (h ∙ ap (λ (t : ℕ). came_in b codes (moment p t) 1) room) l
+        subst (λ (k : ℕ). Wanted (Waiting p k)) (sym (not_over clock n (omega (arith, fits))))
+        (later (Clocks n) steps clock n (count_run n) p (again p (clock + n) fits) i t)
 
-    waited_on : (clock + n + clock_count (calls_of codes) < 2 ^ 32 → Found codes (irq_clocked_times line_step line_length n q) (clock + n))
-        → Wanted (due_within n (clocks_due q))
-    waited_on again =
-        tested (due_within n (clocks_due q))
-        (λ d. subst Wanted (sym d) (in_wait d))
-        (λ d. subst Wanted (sym d) (behind_wait (again fits)))
+    by_due : (d : Due ℕ) → clocks_due q ≡ d → Wanted (waited_for d n q clock)
+    by_due None e = behind_wait
+    by_due (Some d) e =
+        let Chosen : Bool → Type 0 = λ c. Wanted (cond c (Pending (added clock d) (added clock n)) (gone_by n q clock)) in
+        tested (leb d n) (λ h. subst Chosen (sym h) (in_wait d e (leb-true d n h))) (λ h. subst Chosen (sym h) behind_wait)
 
-  module _ (codes : List ℕ) (again : (p : VrcIrq) (t : ℕ) → t + clock_count (calls_of codes) < 2 ^ 32 → Found codes p t) where
-    by_step : (code : ℕ) (q : VrcIrq) (clock : ℕ) (s : Step) → step_coded code ≡ s → clock + clock_count (step_calls s ++ calls_of codes) < 2 ^ 32
-        → (i : ℕ) → i ≡ cond (step_taken b s (moment q clock)).came 0 (came_in b codes (step_taken b s (moment q clock)) 1) → i < suc (length codes)
-        → InStep clock (code ∷ codes) i (set_of (ended (menu_played b codes (step_taken b s (moment q clock)))))
-    by_step code q clock (Write a v) e room i h l =
+  module _ (steps : List Step) (again : (p : VrcIrq) (t : ℕ) → t + clock_count (calls_of steps) < 2 ^ 32 → Found steps p t) where
+    -- a step that is no clock
+    on_call : (s : Step) → clock_count (step_calls s) ≡ 0 → (p : VrcIrq) (clock : ℕ) → clock + clock_count (calls_of steps) < 2 ^ 32
+        → (i t : ℕ) → came_in b steps (Waiting p clock) 1 ≡ Some i → set_of (came b steps (Waiting p clock)) ≡ Some t → InStep clock (s ∷ steps) i t
+    on_call s w p clock room i t e f =
         let same : clock + 0 ≡ clock = omega arith in
-        let p = irq_written_to (decode b a) v q in
-        later code codes clock 0 (ap (λ (x : Step). clock_count (step_calls x)) e) p (set_of (came b codes (moment p clock)))
-        (ap (λ (t : ℕ). set_of (came b codes (moment p t))) (sym same))
-        (again p (clock + 0) (omega arith)) i (h ∙ ap (λ (t : ℕ). came_in b codes (moment p t) 1) (sym same)) l
-    by_step code q clock Reset e room i h l =
-        let same : clock + 0 ≡ clock = omega arith in
-        later code codes clock 0 (ap (λ (x : Step). clock_count (step_calls x)) e) irq_zero (set_of (came b codes (moment irq_zero clock)))
-        (ap (λ (t : ℕ). set_of (came b codes (moment irq_zero t))) (sym same))
-        (again irq_zero (clock + 0) (omega arith)) i (h ∙ ap (λ (t : ℕ). came_in b codes (moment irq_zero t) 1) (sym same)) l
-    by_step code q clock (Wrong n) e room i h l =
-        let same : clock + 0 ≡ clock = omega arith in
-        later code codes clock 0 (ap (λ (x : Step). clock_count (step_calls x)) e) q (set_of (came b codes (moment q clock)))
-        (ap (λ (t : ℕ). set_of (came b codes (moment q t))) (sym same))
-        (again q (clock + 0) (omega arith)) i (h ∙ ap (λ (t : ℕ). came_in b codes (moment q t) 1) (sym same)) l
-    by_step code q clock (Clocks n) e room i h l =
-        waited_on code codes q clock n e room i l (again (irq_clocked_times line_step line_length n q) (clock + n)) h
+        later s steps clock 0 w p (again p (clock + 0) (omega arith)) i t
+        (ap (λ (k : ℕ). came_in b steps (Waiting p k) 1) same ∙ e) (ap (λ (k : ℕ). set_of (came b steps (Waiting p k))) same ∙ f)
 
-  pub in_step : (codes : List ℕ) (q : VrcIrq) (clock : ℕ) → clock + clock_count (calls_of codes) < 2 ^ 32 → Found codes q clock
-  in_step [] q clock room = λ i h l. absurd (omega arith)
-  in_step (code ∷ codes) q clock room = by_step codes (λ p t r. in_step codes p t r) code q clock (step_coded code) refl room
+    by_step : (s : Step) (q : VrcIrq) (clock : ℕ) → clock + clock_count (step_calls s ++ calls_of steps) < 2 ^ 32 → Found (s ∷ steps) q clock
+    by_step (Write a v) q clock room i t e f = on_call (Write a v) refl (irq_written_to (decode b a) v q) clock (omega arith) i t e f
+    by_step Reset q clock room i t e f = on_call Reset refl irq_zero clock (omega arith) i t e f
+    by_step (Clocks n) q clock room i t e f = by_due steps q clock n room again i t (clocks_due q) refl e f
+
+  pub in_step : (steps : List Step) (q : VrcIrq) (clock : ℕ) → clock + clock_count (calls_of steps) < 2 ^ 32 → Found steps q clock
+  in_step [] q clock room = λ i t e f. cc
+  in_step (s ∷ steps) q clock room = by_step steps (λ p t r. in_step steps p t r) s q clock room
 
 -- ---- on the board
-abbrev unsome : Option ℕ → ℕ
-unsome none = 0
-unsome (some t) = t
-
 -- what is found is the clock that sets pending
-found_clock : (a : Came) (n : ℕ) (r : Option ℕ) (t : ℕ) → RiseFound a n r → set_of a ≤ n → 1 ≤ set_of a → r ≡ some t → set_of a ≡ t
-found_clock Never n r t f l o e = absurd (omega arith)
-found_clock (On s) n r t f l o e = ap unsome (sym (f.0 l) ∙ e)
-found_clock (Held s d) n r t f l o e = ap unsome (sym (f.0 l) ∙ e)
-found_clock (Lost s c) n r t f l o e = ap unsome (sym (f.0 l) ∙ e)
+found_clock : (s n : ℕ) (r : Option ℕ) (t : ℕ) → (s ≤ n → r ≡ some s) × (n < s → r ≡ none) → r ≡ some t → Some s ≡ Some t
+found_clock s n r t f e =
+    tested (leb s n)
+    (λ h. let found = f.0 (leb-true s n h) in let same : s ≡ t = cc in ap Some same)
+    (λ h. let found = f.1 (leb-false s n h) in cc)
 
--- the first steps wait no longer than all
-shorter : (j : ℕ) (codes : List ℕ) → clock_count (calls_of (take j codes)) ≤ clock_count (calls_of codes)
-shorter zero codes = omega arith
-shorter (suc j) [] = omega arith
-shorter (suc j) (code ∷ codes) =
-    omega (
-      arith,
-      count_joined (step_calls (step_coded code)) (calls_of (take j codes)),
-      count_joined (step_calls (step_coded code)) (calls_of codes),
-      shorter j codes,
-    )
+set_found : (a : Came) (n : ℕ) (r : Option ℕ) (t : ℕ) → RiseFound a n r → r ≡ some t → set_of a ≡ Some t
+set_found Never n r t f e = cc
+set_found (On s) n r t f e = found_clock s n r t f e
+set_found (Held s d) n r t f e = found_clock s n r t f e
+set_found (Lost s c) n r t f e = found_clock s n r t f e
 
 pub step_law : StepLaw
-step_law c h ws o x e k w codes room small t r =
+step_law c h ws o x e k w steps bytes room i named t r =
     let b = x.board.banking.revision_b in
     let q = x.board.irq in
-    let i = step_on x k codes in
     let still : Waits (after (start c) ws).board.irq k = subst (λ (y : State). Waits y.board.irq k) e w in
-    let comes : Comes x k codes 0 = subst (λ (y : State). Comes y k codes 0) (sym e) (came_law c h ws o k still codes room 0).comes in
-    let here : InStep k codes i (set_of (came_at b q k codes)) =
-    in_step b codes (irq_clocked_times line_step line_length k q) k (omega arith) i refl small in
-    let all : clock_count (calls_around k codes 0) ≡ k + clock_count (calls_of codes) =
-    count_joined (replicate k Clock) (calls_of codes ++ [])
-    ∙ ap (λ (n : ℕ). n + clock_count (calls_of codes ++ [])) (count_run k)
-    ∙ ap (λ (ks : List Call). k + clock_count ks) (append-nil (calls_of codes)) in
-    subst (InStep k codes i)
-    (found_clock (came_at b q k codes) (clock_count (calls_around k codes 0)) (rises_at x (calls_around k codes 0) 0) t comes
-    (omega (arith, all, here.within, shorter (suc i) codes)) (omega (arith, here.behind)) r)
-    here
+    let comes : Comes x k steps 0 = subst (λ (y : State). Comes y k steps 0) (sym e) (came_law c h ws o k still steps bytes room 0).comes in
+    in_step b steps (irq_clocked_times line_step line_length k q) k (omega arith) i t named
+    (set_found (came_at b q k steps) (clock_count (calls_around k steps 0)) (rises_at x (calls_around k steps 0) 0) t comes r)

@@ -2,4 +2,3 @@ pub mod Codes
 pub mod Pictured
 pub mod Ranges
 pub mod Rows
-pub mod Walked

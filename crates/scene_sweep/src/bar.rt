@@ -30,7 +30,8 @@ pub fn unmarked() -> [Mark; 64]
     [Mark::Right; 64]
 }
 
-// Marks the columns of the clocks from `from` to before `to`, of n. A column keeps a worse mark.
+// Marks the columns of the clocks from `from` to before `to`, of n. A column keeps a worse mark. Columns go by their numbers, as
+// the shares of clocks do.
 pub fn mark(bar: &mut [Mark; 64], from: u32, to: u32, n: u32, mark: Mark)
     requires { (from < to) × (to ≤ n) }
     ensures { MarkedOn n from to mark bar.old bar.new }

@@ -10,8 +10,7 @@ use crate::board::{Board, ByteRead};
 use base_shared::{Refusal, number_of};
 use memory_access::{Peeked, check_access, view};
 use memory_pages::Page;
-use memory_tables::chr_table::chr_entry;
-use memory_tables::prg_table::prg_entry;
+use memory_tables::entry_for;
 use vrc6_parts::reads::{cpu_peek, picture_peek};
 
 impl Board {
@@ -19,14 +18,14 @@ impl Board {
     pub(crate) fn cpu_page(self, addr: u16) -> Page
         ensures { result ≡ entry_of cpu self addr }
     {
-        prg_entry(self.prg_pages, addr)
+        entry_for(self.prg_pages, addr)
     }
 
     // The entry that serves a picture address.
     pub(crate) fn picture_page(self, addr: u16) -> Page
         ensures { result ≡ entry_of picture self addr }
     {
-        chr_entry(self.chr_pages, addr)
+        entry_for(self.chr_pages, addr)
     }
 
     // bus is the byte that the bus last held: with the setting on, a read where nothing is there hands it back.

@@ -1,8 +1,7 @@
 -- A window on a region of a layout within its limits meets what the paging functions require, and a window of one page is the ring's. Assumes nothing.
 use mathlib.Core.Path.{◌≡◌, refl, sym, ap, ◌∙◌}
-use mathlib.Core.Bool.{true}
 use mathlib.Core.List.{List, [], ◌∷◌, map}
-use Prim.Native.Nat.{ℕ, ◌+◌, ◌*◌, ◌%◌, ◌^◌, ◌≤◌}
+use Prim.Native.Nat.{ℕ, ◌+◌, ◌^◌, ◌≤◌}
 use Rattle.memory_pages.specs.declared.page.Page.{Page}
 use Rattle.memory_layout.specs.declared.regions.MemoryLayout.{MemoryLayout}
 use Rattle.memory_layout.specs.declared.regions.Region.{Region}
@@ -10,7 +9,7 @@ use Rattle.memory_layout.specs.declared.regions.Src.{Src}
 use Rattle.memory_layout.specs.Layout.{region}
 use Rattle.memory_layout.specs.Required.{Limits}
 use Rattle.memory_rule.specs.declared.rings.PageRing.{PageRing}
-use Rattle.memory_rule.specs.Required.{Held, Turning, Whole, held, ring_of, ring_page}
+use Rattle.memory_rule.specs.Required.{Whole, ring_of, ring_page}
 use Rattle.memory_rule.proofs.Shown.{whole_region}
 use Rattle.memory_rule.proofs.Turned.{one_shown}
 use Rattle.vrc6_tables.specs.Tables.{one_page}
@@ -22,12 +21,6 @@ Below r = r.start + r.len ≤ 2 ^ 29
 module _ (l : MemoryLayout) (h : Limits l) (src : Src) (r : Region) (e : r ≡ region l src) where
   pub whole : Whole r
   whole = rw e (whole_region l h src)
-
-  pub held_by : (s k : ℕ) → s ≤ 16_384 → 8_192 * k + 8_192 ≤ s → held r s ≡ true → Held r s k
-  held_by s k m i w = record { below = whole.below; most = m; whole = w; inside = i }
-
-  pub turning : (s k : ℕ) → s ≤ 16_384 → 8_192 * k + 8_192 ≤ s → s % 1024 ≡ 0 → Turning r s k
-  turning s k m i p = record { whole = whole; most = m; paged = p; inside = i }
 
 -- ---- windows of one page
 each_same : (f g : ℕ → Page) → ((v : ℕ) → f v ≡ g v) → (vs : List ℕ) → map f vs ≡ map g vs

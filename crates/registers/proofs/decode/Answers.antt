@@ -1,3 +1,4 @@
+-- `decode` meets its contract, row by row of the table. Assumes nothing.
 use Prim.Native.Nat.{◌+◌, ◌/◌}
 use native.Mathlib.Omega.{arith}
 use mathlib.Core.Path.{refl}
@@ -9,82 +10,67 @@ use Rattle.registers.specs.Decode.{channel_register}
 use Rattle.registers.proofs.Table.{single, three, fourth, all_four, low, but}
 use Rattle.registers.proofs.decode.Goals as goal
 
--- src/lib.rt:71:17
-pub returns-then-line-lt3 : goal.returns-then-line-lt3
-returns-then-line-lt3 c =
+pub returns-in-8-default : goal.returns-in-8-default
+returns-in-8-default c = all_four _ _ 8 _ c.in-8-default.is-0 c.lines.ensures (λ n. OfBank Prg16) refl refl refl refl
+
+pub returns-in-9-eq3 : goal.returns-in-9-eq3
+returns-in-9-eq3 c = single _ _ 9 _ c.in-9-eq3.is-0 c.lines.ensures 3 (OfAudio Halt) c.in-9-eq3.is-1 refl
+
+pub returns-in-9-default : goal.returns-in-9-default
+returns-in-9-default c =
     rw c.channel_register.ensures
-    (three _ _ 9 _ c.in-9.is c.lines-line.ensures (λ n. OfAudio (Pulse1 (channel_register n))) refl refl refl c.if-line-lt3.true)
+    (three _ _ 9 _ c.in-9-default.is-0 c.lines.ensures (λ n. OfAudio (Pulse1 (channel_register n))) refl refl refl (omega (arith, c.lines.ensures)))
 
--- src/lib.rt:77:17
-pub returns-then-line-lt3-2 : goal.returns-then-line-lt3-2
-returns-then-line-lt3-2 c =
-    rw c.channel_register-then-line-lt3-2.ensures
-    (three _ _ 10 _ c.in-10.is c.lines-line.ensures (λ n. OfAudio (Pulse2 (channel_register n))) refl refl refl c.if-line-lt3-2.true)
+pub returns-in-10-eq3 : goal.returns-in-10-eq3
+returns-in-10-eq3 c = single _ _ 10 _ c.in-10-eq3.is-0 c.lines.ensures 3 (Nothing) c.in-10-eq3.is-1 refl
 
--- src/lib.rt:83:17
-pub returns-then-line-lt3-3 : goal.returns-then-line-lt3-3
-returns-then-line-lt3-3 c =
-    rw c.channel_register-then-line-lt3-3.ensures
-    (three _ _ 11 _ c.in-11.is c.lines-line.ensures (λ n. OfAudio (OfSaw (channel_register n))) refl refl refl c.if-line-lt3-3.true)
+pub returns-in-10-default : goal.returns-in-10-default
+returns-in-10-default c =
+    rw c.channel_register-in-10-default.ensures
+    (three _ _ 10 _ c.in-10-default.is-0 c.lines.ensures (λ n. OfAudio (Pulse2 (channel_register n))) refl refl refl (omega (arith, c.lines.ensures)))
 
--- src/lib.rt:63:1
-pub returns-in-8 : goal.returns-in-8
-returns-in-8 c = all_four _ _ 8 _ c.in-8.is c.lines-line.ensures (λ n. OfBank Prg16) refl refl refl refl
+pub returns-in-11-eq3 : goal.returns-in-11-eq3
+returns-in-11-eq3 c = single _ _ 11 _ c.in-11-eq3.is-0 c.lines.ensures 3 (OfBank Mode) c.in-11-eq3.is-1 refl
 
--- src/lib.rt:63:1
-pub returns-else-line-lt3 : goal.returns-else-line-lt3
-returns-else-line-lt3 c = fourth _ _ 9 _ c.in-9.is c.lines-line.ensures (OfAudio Halt) refl c.if-line-lt3.false
+pub returns-in-11-default : goal.returns-in-11-default
+returns-in-11-default c =
+    rw c.channel_register-in-11-default.ensures
+    (three _ _ 11 _ c.in-11-default.is-0 c.lines.ensures (λ n. OfAudio (OfSaw (channel_register n))) refl refl refl (omega (arith, c.lines.ensures)))
 
--- src/lib.rt:63:1
-pub returns-else-line-lt3-2 : goal.returns-else-line-lt3-2
-returns-else-line-lt3-2 c = fourth _ _ 10 _ c.in-10.is c.lines-line.ensures Nothing refl c.if-line-lt3-2.false
+pub returns-in-12-default : goal.returns-in-12-default
+returns-in-12-default c = all_four _ _ 12 _ c.in-12-default.is-0 c.lines.ensures (λ n. OfBank Prg8) refl refl refl refl
 
--- src/lib.rt:63:1
-pub returns-else-line-lt3-3 : goal.returns-else-line-lt3-3
-returns-else-line-lt3-3 c = fourth _ _ 11 _ c.in-11.is c.lines-line.ensures (OfBank Mode) refl c.if-line-lt3-3.false
-
--- src/lib.rt:63:1
-pub returns-in-12 : goal.returns-in-12
-returns-in-12 c = all_four _ _ 12 _ c.in-12.is c.lines-line.ensures (λ n. OfBank Prg8) refl refl refl refl
-
--- src/lib.rt:63:1
-pub returns-in-13 : goal.returns-in-13
-returns-in-13 c =
+pub returns-in-13-default : goal.returns-in-13-default
+returns-in-13-default c =
     rw c.chr_register.ensures
-    (all_four _ _ 13 _ c.in-13.is c.lines-line.ensures (λ n. OfBank (Chr (0 + n))) refl refl refl refl)
+    (all_four _ _ 13 _ c.in-13-default.is-0 c.lines.ensures (λ n. OfBank (Chr (0 + n))) refl refl refl refl)
 
--- src/lib.rt:63:1
-pub returns-in-14 : goal.returns-in-14
-returns-in-14 c =
-    rw c.chr_register-in-14.ensures
-    (all_four _ _ 14 _ c.in-14.is c.lines-line.ensures (λ n. OfBank (Chr (4 + n))) refl refl refl refl)
+pub returns-in-14-default : goal.returns-in-14-default
+returns-in-14-default c =
+    rw c.chr_register-in-14-default.ensures
+    (all_four _ _ 14 _ c.in-14-default.is-0 c.lines.ensures (λ n. OfBank (Chr (4 + n))) refl refl refl refl)
 
--- src/lib.rt:63:1
-pub returns-in-0 : goal.returns-in-0
-returns-in-0 c = single _ _ 15 _ c.in-15.is c.lines-line.ensures 0 (OfIrq Reload) c.in-0.is refl
+pub returns-in-15-eq0 : goal.returns-in-15-eq0
+returns-in-15-eq0 c = single _ _ 15 _ c.in-15-eq0.is-0 c.lines.ensures 0 (OfIrq Reload) c.in-15-eq0.is-1 refl
 
--- src/lib.rt:63:1
-pub returns-in-1 : goal.returns-in-1
-returns-in-1 c = single _ _ 15 _ c.in-15.is c.lines-line.ensures 1 (OfIrq Control) c.in-1.is refl
+pub returns-in-15-eq1 : goal.returns-in-15-eq1
+returns-in-15-eq1 c = single _ _ 15 _ c.in-15-eq1.is-0 c.lines.ensures 1 (OfIrq Control) c.in-15-eq1.is-1 refl
 
--- src/lib.rt:63:1
-pub returns-in-2 : goal.returns-in-2
-returns-in-2 c = single _ _ 15 _ c.in-15.is c.lines-line.ensures 2 (OfIrq Acknowledge) c.in-2.is refl
+pub returns-in-15-eq2 : goal.returns-in-15-eq2
+returns-in-15-eq2 c = single _ _ 15 _ c.in-15-eq2.is-0 c.lines.ensures 2 (OfIrq Acknowledge) c.in-15-eq2.is-1 refl
 
--- src/lib.rt:63:1
-pub returns-in_default-line : goal.returns-in_default-line
-returns-in_default-line c = fourth _ _ 15 _ c.in-15.is c.lines-line.ensures Nothing refl (omega arith)
-
--- src/lib.rt:63:1
 pub returns-in_default : goal.returns-in_default
-returns-in_default c =
-    let r = c.in_default.in_default-own.rest in
-    low _ _ (c.args.addr / 4096) _ refl c.lines-line.ensures
-    (but _ 8 (but _ 9 (but _ 10 (but _ 11 (but _ 12 (but _ 13 (but _ 14 (but _ 15 (omega arith) r.1)
-    r.0.1)
-    r.0.0.1)
-    r.0.0.0.1)
-    r.0.0.0.0.1)
-    r.0.0.0.0.0.1)
-    r.0.0.0.0.0.0.1)
-    r.0.0.0.0.0.0.0.1)
+returns-in_default c = fourth _ _ 15 _ c.in_default.is-0 c.lines.ensures Nothing refl (omega (arith, c.lines.ensures))
+
+pub returns-in_default-2 : goal.returns-in_default-2
+returns-in_default-2 c =
+    let w = c.in_default.is-0 in
+    low _ _ (c.args.addr / 4096) _ refl c.lines.ensures
+    (but _ 8 (but _ 9 (but _ 10 (but _ 11 (but _ 12 (but _ 13 (but _ 14 (but _ 15 (omega arith) w.1)
+    w.0.1)
+    w.0.0.1)
+    w.0.0.0.1)
+    w.0.0.0.0.1)
+    w.0.0.0.0.0.1)
+    w.0.0.0.0.0.0.1)
+    w.0.0.0.0.0.0.0.1)

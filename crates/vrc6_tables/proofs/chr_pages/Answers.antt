@@ -8,11 +8,8 @@ use Rattle.memory_rule.specs.Required.{ring_of}
 use Rattle.memory_rule.proofs.Shown.{whole_region}
 use Rattle.vrc6_slots.specs.Chr.{chr_slots}
 use Rattle.vrc6_tables.specs.Tables.{nametable_source, picture_entries}
-use Rattle.vrc6_tables.proofs.Regions.{ringed, whole}
+use Rattle.vrc6_tables.proofs.Regions.{ringed}
 use Rattle.vrc6_tables.proofs.chr_pages.Goals as goal
-
-pub of-chr-requires : goal.of-chr-requires
-of-chr-requires c = whole c.args.layout c.requires Chr _ c.region.ensures
 
 pub returns : goal.returns
 unfolding picture_entries
@@ -23,6 +20,7 @@ returns c =
     c.picture_table.ensures
     ∙ ap₂ (λ (slots names : List Page). slots ++ names ++ names)
     (c.slot_pages.ensures
-    ∙ ringed (region l Chr) (whole_region l c.requires Chr) _ (c.of-chr.ensures.0 ∙ ap ring_of c.region.ensures)
+    ∙ ringed (region l.layout Chr) (whole_region l.layout l.within Chr) _ (c.of-chr.ensures.0 ∙ ap ring_of c.region.ensures)
     (chr_slots b.banking_mode b.chr))
-    (c.nametable_pages.ensures ∙ ringed (region l source) (whole_region l c.requires source) _ c.nametable_ring-source.ensures.0 b.nt_banks)
+    (c.bank_pages.ensures
+    ∙ ringed (region l.layout source) (whole_region l.layout l.within source) _ c.nametable_ring-source.ensures.0 b.nt_banks)
