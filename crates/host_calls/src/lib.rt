@@ -94,7 +94,15 @@ pub fn vrc6_cpu_read(board: &mut Board, fixed: &[u8], changing: &[u8], addr: u16
 {
     // The entry is read where it lies, since `entry_for` takes a copy of the table.
     let page = board.prg_pages[(addr / 1024 % 64) as usize];
-    let answer = cpu_peek(board.layout, page, board.open_bus, fixed, changing, addr, bus);
+    let answer = cpu_peek(
+        board.layout,
+        page,
+        board.open_bus,
+        fixed,
+        changing,
+        addr,
+        bus,
+    );
     Peeked::from(answer)
 }
 

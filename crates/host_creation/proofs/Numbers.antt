@@ -1,18 +1,15 @@
 -- Creation by numbers: its answer from the refusal number, and the law of named numbers. Assumes nothing.
 use mathlib.Core.Path.{◌≡◌, refl, sym, ap, ◌∙◌}
 use mathlib.Core.Bool.{Bool, true, false, not}
-use mathlib.Core.List.{List, [], ◌∷◌, ◌++◌}
-use Prim.Native.Nat.{ℕ, zero, suc, ◌≤◌}
-use native.Mathlib.Omega.{arith}
+use mathlib.Core.List.{List, [], ◌∷◌}
+use Prim.Native.Nat.{ℕ, zero, suc}
 use lib.Dec.{eqb, leb}
 use lib.ListN.{length, take}
-use borrow.Author.Tests.{eqb-true}
 use Rattle.base_shared.specs.Refusals.{first_failing, unless}
 use Rattle.base_shared.specs.Rows.{flag}
-use Rattle.base_shared.proofs.Tests.{and_left, both, first_refused, unless_refused}
-use Rattle.base_shared.proofs.Numbers.{none_fails, decided_behind}
+use Rattle.base_shared.proofs.Tests.{both}
 use Rattle.memory_layout.specs.declared.regions.MemoryLayout.{MemoryLayout}
-use Rattle.memory_layout.specs.Layout.{within_limits, lengths_fit, layout_checks, fixed_length, changing_length}
+use Rattle.memory_layout.specs.Layout.{within_limits, lengths_fit}
 use Rattle.vrc6_slots.specs.declared.Mirroring.{Mirroring}
 use Rattle.vrc6_slots.specs.declared.Mirroring.TheVariants.{Vertical, Horizontal, SingleScreenA, SingleScreenB, FourScreen}
 use Rattle.vrc6_banking.specs.declared.banking.Revision.{Revision}
