@@ -9,7 +9,7 @@ use lib.Dec.{leb}
 use lib.ListN.{length, take, drop}
 use borrow.Author.Tests.{le-leb, lt-leb, leb-true, leb-false}
 use Rattle.base_shared.specs.Refusals.{unless}
-use Rattle.base_shared.proofs.Tests.{tested, unless_refused, unless_done}
+use Rattle.base_shared.proofs.Tests.{tested, unless_done}
 use Rattle.memory_pages.specs.Pages.{offset as offset_of}
 use Rattle.memory_tables.specs.Paging.{picture}
 use Rattle.memory_access.specs.Access.{page_bytes}
@@ -31,13 +31,6 @@ module _ (x : State) (address : ℕ) where
   told n behind = record { offset = unless n (cond behind (at - length x.fixed) at) 0; changing = unless n behind false; refusal = n }
 
   module _ (n : ℕ) (e : n ≡ page_view_refusal x address) where
-    pub at_refused : (n ≡ 0 → ⊥) → record { offset = 0; changing = false; refusal = n } ≡ page_at x address
-    at_refused h =
-        let behind = leb (length x.fixed) at in
-        let o = unless_refused (cond behind (at - length x.fixed) at) 0 (page_view_refusal x address) n e h in
-        let c = unless_refused behind false (page_view_refusal x address) n e h in
-        λ i. record { offset = sym o i; changing = sym c i; refusal = e i }
-
     pub at_fixed : n ≡ 0 → at < length x.fixed → record { offset = at; changing = false; refusal = n } ≡ page_at x address
     at_fixed h lt = ap (λ (k : ℕ). record { offset = at; changing = false; refusal = k }) h ∙ ap (told 0) (sym (lt-leb _ _ lt)) ∙ ap (λ (k : ℕ). told k (leb (length x.fixed) at)) (sym h ∙ e)
 

@@ -1,7 +1,9 @@
 -- Answers as numbers, since no enum crosses to C (01, The board's calls). Assumes nothing.
-use Rattle.std.specs.Prelude.{Bool, true, false, cond, ℕ, ◌-◌, eqb, leb, length}
+use Rattle.std.specs.Prelude.{Result, Ok, Err, Option, Some, None, Bool, true, false, cond, ℕ, ◌-◌, eqb, leb, length}
 use Rattle.std.specs.Float.{binary32}
 use Rattle.std.specs.Float.Ieee.{of_bits}
+use Rattle.base_shared.specs.declared.Refusal.{Refusal}
+use Rattle.base_shared.specs.Numbers.{number}
 use Rattle.base_shared.specs.Refusals.{unless}
 use Rattle.memory_pages.specs.Pages.{offset as offset_of}
 use Rattle.memory_tables.specs.Paging.{picture}
@@ -11,9 +13,7 @@ use Rattle.irq.specs.Timing.{clock_answer}
 use Rattle.audio.specs.Sound.{with_timers}
 use Rattle.vrc6.specs.declared.board.Board.{Board}
 use Rattle.vrc6.specs.declared.board.Clocked.{Clocked}
-use Rattle.vrc6_engine.specs.declared.steady.Steady.{Steady}
-use Rattle.vrc6_engine.specs.declared.answers.Forecast.{Forecast}
-use Rattle.vrc6_engine.specs.declared.answers.Forecast.TheVariants.{None, In, Refused}
+use Rattle.vrc6_engine.specs.declared.steady.Timers.{Timers}
 use Rattle.vrc6.specs.Boards.{State, entry_of, with_engine}
 use Rattle.vrc6.specs.Calls.{clock, page_view_refusal}
 use Rattle.host_answers.specs.declared.EncodedLevel.{EncodedLevel}
@@ -27,13 +27,13 @@ abbrev pub level_encoded : Level → EncodedLevel
 level_encoded (Silent x) = record { level = x; name = 0; refusal = 0 }
 level_encoded (Held x) = record { level = x; name = 1; refusal = 0 }
 level_encoded (Playing x) = record { level = x; name = 2; refusal = 0 }
-level_encoded (NoLevel n) = record { level = of_bits binary32 0; name = 0; refusal = n }
+level_encoded (NoLevel r) = record { level = of_bits binary32 0; name = 0; refusal = number r }
 
 -- a forecast; where there is none, or it is refused, the clocks are 0 (01, The form to use in each place 12)
-abbrev pub forecast_encoded : Forecast → EncodedForecast
-forecast_encoded None = record { clocks = 0; armed = false; refusal = 0 }
-forecast_encoded (In n) = record { clocks = n; armed = true; refusal = 0 }
-forecast_encoded (Refused n) = record { clocks = 0; armed = false; refusal = n }
+abbrev pub forecast_encoded : Result (Option ℕ) Refusal → EncodedForecast
+forecast_encoded (Ok None) = record { clocks = 0; armed = false; refusal = 0 }
+forecast_encoded (Ok (Some n)) = record { clocks = n; armed = true; refusal = 0 }
+forecast_encoded (Err r) = record { clocks = 0; armed = false; refusal = number r }
 
 -- ---- page view, encoded as a place
 -- where the picture entry of an address points, counted in its own buffer: in the fixed one up to that one's length, from there on in the
@@ -58,10 +58,10 @@ abbrev pub clock_numbered : Board → Numbered
 clock_numbered b = record { board = (clock b).board; number = tick_number (clock b).ticked (clock b).refusal }
 
 -- a clock that is not refused, and moves of the sound the timers only, to these
-abbrev pub steady_clocked : Board → Steady → Clocked
+abbrev pub steady_clocked : Board → Timers → Clocked
 steady_clocked b s =
     record {
-      board = with_engine b (clock_answer b.irq).irq (with_timers b.audio s.timer1 s.timer2 s.timer3);
+      board = with_engine b (record { irq = (clock_answer b.irq).irq; audio = with_timers b.audio s.pulse1 s.pulse2 s.saw });
       ticked = (clock_answer b.irq).ticked;
       refusal = 0;
     }

@@ -7,10 +7,11 @@ ghost use Rattle.vrc6.specs.Calls.{forecast, level, reset};
 ghost use Rattle.host_answers.specs.Encoded.{clock_numbered, forecast_encoded, level_encoded, page_at, steady_clocked, tick_number};
 
 use audio::Level;
-use memory_tables::chr_table::chr_entry;
+use base_shared::Refusal;
+use memory_tables::entry_for;
 use vrc6::Board;
-use vrc6::board::{Clocked, Forecast, ResetKind, Written};
-use vrc6_engine::steady::Steady;
+use vrc6::board::{Clocked, ResetKind, Written};
+use vrc6_engine::steady::Timers;
 
 // The level; its name, 0 silent, 1 held, 2 playing; the refusal's number. Refused, level and name are 0.
 #[repr(C)]
@@ -23,7 +24,7 @@ pub struct EncodedLevel {
 
 // The clocks until the interrupt, 0 where the counter is not armed or the call is refused.
 #[repr(C)]
-#[derive(Clone, Copy)]
+#[derive(Clone, Copy, Debug, PartialEq, Eq)]
 pub struct EncodedForecast {
     pub clocks: u32,
     pub armed: bool,
@@ -32,7 +33,7 @@ pub struct EncodedForecast {
 
 // A page is the 1,024 bytes from offset of the fixed buffer, or of the changing one. Refused, offset is 0.
 #[repr(C)]
-#[derive(Clone, Copy)]
+#[derive(Clone, Copy, Debug, PartialEq, Eq)]
 pub struct PageAt {
     pub offset: u32,
     pub changing: bool,
@@ -45,69 +46,69 @@ pub fn reset_board(b: Board) -> Written
     b.reset(ResetKind::Soft)
 }
 
-fn of_level(level: Level) -> EncodedLevel
-    ensures { result ≡ level_encoded level }
-{
-    match level {
-        Level::Silent(level) => EncodedLevel {
-            level,
-            name: 0,
-            refusal: 0,
-        },
-        Level::Held(level) => EncodedLevel {
-            level,
-            name: 1,
-            refusal: 0,
-        },
-        Level::Playing(level) => EncodedLevel {
-            level,
-            name: 2,
-            refusal: 0,
-        },
-        Level::Refused(refusal) => EncodedLevel {
-            level: 0.0,
-            name: 0,
-            refusal,
-        },
+impl From<Level> for EncodedLevel {
+    ghost from_gives = { λ level encoded. encoded ≡ level_encoded level };
+
+    fn from(level: Level) -> EncodedLevel {
+        match level {
+            Level::Silent(level) => EncodedLevel {
+                level,
+                name: 0,
+                refusal: 0,
+            },
+            Level::Held(level) => EncodedLevel {
+                level,
+                name: 1,
+                refusal: 0,
+            },
+            Level::Playing(level) => EncodedLevel {
+                level,
+                name: 2,
+                refusal: 0,
+            },
+            Level::Refused(refusal) => EncodedLevel {
+                level: 0.0,
+                name: 0,
+                refusal: u8::from(refusal),
+            },
+        }
     }
 }
 
-fn of_forecast(forecast: Forecast) -> EncodedForecast
-    ensures { result ≡ forecast_encoded forecast }
-{
-    match forecast {
-        Forecast::None => EncodedForecast {
-            clocks: 0,
-            armed: false,
-            refusal: 0,
-        },
-        Forecast::In(clocks) => EncodedForecast {
-            clocks,
-            armed: true,
-            refusal: 0,
-        },
-        Forecast::Refused(refusal) => EncodedForecast {
-            clocks: 0,
-            armed: false,
-            refusal,
-        },
+impl From<Result<Option<u32>, Refusal>> for EncodedForecast {
+    ghost from_gives = { λ forecast encoded. encoded ≡ forecast_encoded forecast };
+
+    fn from(forecast: Result<Option<u32>, Refusal>) -> EncodedForecast {
+        match forecast {
+            Ok(None) => EncodedForecast {
+                clocks: 0,
+                armed: false,
+                refusal: 0,
+            },
+            Ok(Some(clocks)) => EncodedForecast {
+                clocks,
+                armed: true,
+                refusal: 0,
+            },
+            Err(refusal) => EncodedForecast {
+                clocks: 0,
+                armed: false,
+                refusal: u8::from(refusal),
+            },
+        }
     }
 }
 
 pub fn encode_level(b: Board) -> EncodedLevel
     ensures { result ≡ level_encoded (level b).level }
 {
-    let r = b.level();
-    let level = r.level;
-    of_level(level)
+    EncodedLevel::from(b.level().level)
 }
 
 pub fn encode_forecast(b: Board) -> EncodedForecast
     ensures { result ≡ forecast_encoded (forecast b).forecast }
 {
-    let r = b.forecast();
-    let forecast = r.forecast;
-    of_forecast(forecast)
+    EncodedForecast::from(b.forecast().forecast)
 }
 
 // The place of a picture entry, with the buffer told apart.
@@ -122,20 +123,18 @@ pub fn page_at(b: Board, fixed: &[u8], changing: &[u8], addr: u16) -> PageAt
             refusal,
         };
     }
-    let pages = b.chr_pages;
-    let offset = chr_entry(pages, addr).offset();
-    let start = fixed.len();
-    if (offset as usize) < start {
-        return PageAt {
+    let offset = entry_for(b.chr_pages, addr).offset();
+    match (offset as usize).checked_sub(fixed.len()) {
+        None => PageAt {
             offset,
             changing: false,
             refusal,
-        };
-    }
-    PageAt {
-        offset: (offset as usize - start) as u32,
-        changing: true,
-        refusal,
+        },
+        Some(rest) => PageAt {
+            offset: rest as u32,
+            changing: true,
+            refusal,
+        },
     }
 }
 
@@ -150,35 +149,33 @@ pub struct Numbered {
 fn tick_number(ticked: bool, refusal: u8) -> u8
     ensures { result ≡ tick_number ticked refusal }
 {
-    if ticked {
-        return 1;
+    match (ticked, refusal) {
+        (true, _) => 1,
+        (false, 0) => 0,
+        (false, _) => 6,
     }
-    if refusal == 0 {
-        return 0;
-    }
-    6
 }
 
 pub fn clock_numbered(b: Board) -> Numbered
     ensures { result ≡ clock_numbered b }
 {
     let after = b.clock();
-    let board = after.board;
-    let number = tick_number(after.ticked, after.refusal);
-    Numbered { board, number }
+    Numbered {
+        board: after.board,
+        number: tick_number(after.ticked, after.refusal),
+    }
 }
 
 // A clock that moves of the sound its timers only.
-pub fn steady_clock(b: Board, steady: Steady) -> Clocked
-    ensures { result ≡ steady_clocked b steady }
+pub fn steady_clock(b: Board, timers: Timers) -> Clocked
+    ensures { result ≡ steady_clocked b timers }
 {
     let next = b.irq.clock();
-    let irq = next.irq;
     let mut board = b;
-    board.irq = irq;
-    board.audio.pulse1.timer = steady.timer1;
-    board.audio.pulse2.timer = steady.timer2;
-    board.audio.saw.timer = steady.timer3;
+    board.irq = next.irq;
+    board.audio.pulse1.timer = timers.pulse1;
+    board.audio.pulse2.timer = timers.pulse2;
+    board.audio.saw.timer = timers.saw;
     Clocked {
         board,
         ticked: next.ticked,

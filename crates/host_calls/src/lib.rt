@@ -22,9 +22,10 @@ use host_creation::{NumberedSettings, create_numbered};
 use memory_access::Peeked;
 use memory_layout::MemoryLayout;
 use vrc6::Board;
-use vrc6_engine::steady::{Steady, steady_timers};
+use vrc6_engine::Engine;
+use vrc6_engine::steady::Timers;
 use vrc6_parts::reads::{cpu_peek, picture_peek};
-use vrc6_parts::writes::{reached, write_byte};
+use vrc6_parts::writes::{Part, reached, write_byte};
 
 // Creation by numbers, since no enum crosses. A refused create leaves the zero board. The answer is the refusal's number.
 pub fn vrc6_create(
@@ -46,8 +47,7 @@ pub fn vrc6_create(
 pub fn vrc6_reset(board: &mut Board) -> u8
     ensures { (board.new ≡ (reset board.old).board) × (result ≡ (reset board.old).refusal) }
 {
-    let b = *board;
-    let after = reset_board(b);
+    let after = reset_board(*board);
     *board = after.board;
     after.refusal
 }
@@ -55,15 +55,13 @@ pub fn vrc6_reset(board: &mut Board) -> u8
 pub fn vrc6_level(board: &mut Board) -> EncodedLevel
     ensures { (board.new ≡ board.old) × (result ≡ level_encoded (level board.old).level) }
 {
-    let b = *board;
-    encode_level(b)
+    encode_level(*board)
 }
 
 pub fn vrc6_forecast(board: &mut Board) -> EncodedForecast
     ensures { (board.new ≡ board.old) × (result ≡ forecast_encoded (forecast board.old).forecast) }
 {
-    let b = *board;
-    encode_forecast(b)
+    encode_forecast(*board)
 }
 
 // A byte, and no register. The answer is the refusal's number.
@@ -78,9 +76,7 @@ pub fn vrc6_picture_write(
         × (changing.new ≡ (picture_write_left (held_by board.old fixed.now changing.old) addr val).changing)
         × (result ≡ (picture_write (held_by board.old fixed.now changing.old) addr val).refusal) }
 {
-    let b = *board;
-    let stored = b.picture_write(fixed, changing, addr, val);
-    stored.refusal
+    board.picture_write(fixed, changing, addr, val).refusal
 }
 
 // Where the page of a picture address lies, for a host that keeps both buffers.
@@ -88,8 +84,7 @@ pub fn vrc6_page_view(board: &mut Board, fixed: &[u8], changing: &[u8], addr: u1
     ensures { (board.new ≡ board.old)
         × (result ≡ page_at (held_by board.old fixed.now changing.now) addr) }
 {
-    let b = *board;
-    page_at(b, fixed, changing, addr)
+    page_at(*board, fixed, changing, addr)
 }
 
 // bus is the byte that the bus last held: with the setting on, a read where nothing is there hands it back.
@@ -97,21 +92,26 @@ pub fn vrc6_cpu_read(board: &mut Board, fixed: &[u8], changing: &[u8], addr: u16
     ensures { (board.new ≡ board.old)
         × (result ≡ byte_answer (byte_read (by_cpu bus) (held_by board.old fixed.now changing.now) addr)) }
 {
-    let slot = (addr / 1024 % 64) as usize;
-    let page = board.prg_pages[slot];
-    let layout = board.layout;
-    let open_bus = board.open_bus;
-    cpu_peek(layout, page, open_bus, fixed, changing, addr, bus)
+    // The entry is read where it lies, since `entry_for` takes a copy of the table.
+    let page = board.prg_pages[(addr / 1024 % 64) as usize];
+    let answer = cpu_peek(
+        board.layout,
+        page,
+        board.open_bus,
+        fixed,
+        changing,
+        addr,
+        bus,
+    );
+    Peeked::from(answer)
 }
 
 pub fn vrc6_picture_read(board: &mut Board, fixed: &[u8], changing: &[u8], addr: u16) -> Peeked
     ensures { (board.new ≡ board.old)
         × (result ≡ byte_answer (byte_read by_picture (held_by board.old fixed.now changing.now) addr)) }
 {
-    let slot = (addr / 1024 % 16) as usize;
-    let page = board.chr_pages[slot];
-    let layout = board.layout;
-    picture_peek(layout, page, fixed, changing, addr)
+    let page = board.chr_pages[(addr / 1024 % 16) as usize];
+    Peeked::from(picture_peek(board.layout, page, fixed, changing, addr))
 }
 
 // The byte, then the register. The answer is the refusal's number.
@@ -126,48 +126,36 @@ pub fn vrc6_cpu_write(
         × (changing.new ≡ (cpu_write_left (held_by board.old fixed.now changing.old) addr val).changing)
         × (result ≡ (cpu_write (held_by board.old fixed.now changing.old) addr val).refusal) }
 {
-    let at = (addr / 1024 % 64) as usize;
-    let page = board.prg_pages[at];
-    let refusal = write_byte(
+    let page = board.prg_pages[(addr / 1024 % 64) as usize];
+    let engine = Engine {
+        irq: board.irq,
+        audio: board.audio,
+    };
+    let written = write_byte(
         board.layout,
         page,
         board.banking,
-        board.irq,
-        board.audio,
+        engine,
         fixed,
         changing,
         addr,
         val,
     );
-    if refusal != 0 {
-        return refusal;
-    } else {
-        let part = reached(board.banking.revision_b, addr);
-        if part == 1 {
-            let b = *board;
-            *board = b.write_banks(addr, val);
-            return 0;
-        } else {
-            if part == 2 {
-                let b = *board;
-                *board = b.write_sound(addr, val);
-                return 0;
-            } else {
-                if part == 3 {
-                    let b = *board;
-                    *board = b.write_line(addr, val);
-                    return 0;
-                } else {
-                    return 0;
-                }
-            }
-        }
+    if let Err(refusal) = written {
+        return u8::from(refusal);
     }
+    match reached(board.banking.revision_b, addr) {
+        Some(Part::Banks) => *board = board.write_banks(addr, val),
+        Some(Part::Sound) => *board = board.write_sound(addr, val),
+        Some(Part::Interrupt) => *board = board.write_line(addr, val),
+        None => {}
+    }
+    0
 }
 
 // Whether a clock ticked, and the refusal's number.
 #[repr(C)]
-#[derive(Clone, Copy)]
+#[derive(Clone, Copy, Debug, PartialEq, Eq)]
 pub struct Tick {
     pub ticked: bool,
     pub refusal: u8,
@@ -184,11 +172,10 @@ fn decoded(number: u8) -> Tick
 }
 
 // A clock of a steady sound: of the sound only the timers are stored anew.
-fn clock_steady(board: &mut Board, steady: Steady) -> Tick
-    ensures { (board.new ≡ (steady_clocked board.old steady).board) × (result ≡ tick_answer (steady_clocked board.old steady)) }
+fn clock_steady(board: &mut Board, timers: Timers) -> Tick
+    ensures { (board.new ≡ (steady_clocked board.old timers).board) × (result ≡ tick_answer (steady_clocked board.old timers)) }
 {
-    let b = *board;
-    let moved = steady_clock(b, steady);
+    let moved = steady_clock(*board, timers);
     *board = moved.board;
     Tick {
         ticked: moved.ticked,
@@ -200,14 +187,13 @@ fn clock_steady(board: &mut Board, steady: Steady) -> Tick
 pub fn vrc6_clock(board: &mut Board) -> Tick
     ensures { (board.new ≡ (clock board.old).board) × (result ≡ tick_answer (clock board.old)) }
 {
-    let irq = board.irq;
-    let audio = board.audio;
-    let steady = steady_timers(irq, audio);
-    if steady.yes {
-        return clock_steady(board, steady);
-    } else {
-        let number = vrc6_clock_number(board);
-        return decoded(number);
+    let engine = Engine {
+        irq: board.irq,
+        audio: board.audio,
+    };
+    match engine.steady() {
+        Some(timers) => clock_steady(board, timers),
+        None => decoded(vrc6_clock_number(board)),
     }
 }
 
@@ -215,8 +201,7 @@ pub fn vrc6_clock(board: &mut Board) -> Tick
 pub fn vrc6_clock_number(board: &mut Board) -> u8
     ensures { (board.new ≡ (clock board.old).board) × (result ≡ (clock_numbered board.old).number) }
 {
-    let b = *board;
-    let clocked = clock_numbered(b);
+    let clocked = clock_numbered(*board);
     *board = clocked.board;
     clocked.number
 }

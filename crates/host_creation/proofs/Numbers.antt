@@ -1,18 +1,15 @@
 -- Creation by numbers: its answer from the refusal number, and the law of named numbers. Assumes nothing.
 use mathlib.Core.Path.{◌≡◌, refl, sym, ap, ◌∙◌}
 use mathlib.Core.Bool.{Bool, true, false, not}
-use mathlib.Core.List.{List, [], ◌∷◌, ◌++◌}
-use Prim.Native.Nat.{ℕ, zero, suc, ◌≤◌}
-use native.Mathlib.Omega.{arith}
+use mathlib.Core.List.{List, [], ◌∷◌}
+use Prim.Native.Nat.{ℕ, zero, suc}
 use lib.Dec.{eqb, leb}
 use lib.ListN.{length, take}
-use borrow.Author.Tests.{eqb-true}
 use Rattle.base_shared.specs.Refusals.{first_failing, unless}
 use Rattle.base_shared.specs.Rows.{flag}
-use Rattle.base_shared.proofs.Tests.{and_left, both, first_refused, unless_refused}
-use Rattle.base_shared.proofs.Numbers.{none_fails, decided_behind}
+use Rattle.base_shared.proofs.Tests.{both}
 use Rattle.memory_layout.specs.declared.regions.MemoryLayout.{MemoryLayout}
-use Rattle.memory_layout.specs.Layout.{within_limits, lengths_fit, layout_checks, fixed_length, changing_length}
+use Rattle.memory_layout.specs.Layout.{within_limits, lengths_fit}
 use Rattle.vrc6_slots.specs.declared.Mirroring.{Mirroring}
 use Rattle.vrc6_slots.specs.declared.Mirroring.TheVariants.{Vertical, Horizontal, SingleScreenA, SingleScreenB, FourScreen}
 use Rattle.vrc6_banking.specs.declared.banking.Revision.{Revision}
@@ -26,31 +23,10 @@ use Rattle.host_creation.specs.declared.NumberedSettings.{NumberedSettings}
 use Rattle.host_creation.specs.Numbers.{mirroring_numbered, revision_numbered, settings_numbered, settings_named, numbers_of, numbered_refusal, created_by}
 use Rattle.host_creation.specs.Laws.{CreateNumberedLaw}
 
--- a number above 3 and one above 0 are the last of their kind
-pub last_mirroring : (n : ℕ) → 4 ≤ n → FourScreen ≡ mirroring_numbered n
-last_mirroring zero h = absurd (omega arith)
-last_mirroring (suc zero) h = absurd (omega arith)
-last_mirroring (suc (suc zero)) h = absurd (omega arith)
-last_mirroring (suc (suc (suc zero))) h = absurd (omega arith)
-last_mirroring (suc (suc (suc (suc n)))) h = refl
-
-pub last_revision : (n : ℕ) → 1 ≤ n → B ≡ revision_numbered n
-last_revision zero h = absurd (omega arith)
-last_revision (suc n) h = refl
-
 -- a refusal that is asked twice
 twice : {A : Type 0} (n : ℕ) (done given : A) → unless n done given ≡ unless n (unless n done given) given
 twice zero done given = refl
 twice (suc n) done given = refl
-
--- a create with an empty fixed buffer is refused
-empty : (l : MemoryLayout) (changing : List ℕ) → creation_refusal l [] changing ≡ 0 → ⊥
-empty l changing h =
-    let fit = ((none_fails (layout_checks l 0 (length changing) ++ (all_zero (take 1024 []), 4) ∷ []) refl).0 h).1.0 in
-    omega (arith, eqb-true 0 (fixed_length l) (and_left (eqb 0 (fixed_length l)) (eqb (length changing) (changing_length l)) fit))
-
-pub no_board : (c : Creation) → c.fixed ≡ [] → (create c).board ≡ zero_board
-no_board c e = unless_refused (new_board c.layout c.settings) zero_board (creation_refusal c.layout c.fixed c.changing) _ refl (λ z. empty c.layout c.changing (ap (λ (f : List ℕ). creation_refusal c.layout f c.changing) (sym e) ∙ z))
 
 module _ (l : MemoryLayout) (s : NumberedSettings) (fixed changing : List ℕ) where
   abbrev checks : Bool → ℕ
@@ -66,26 +42,6 @@ module _ (l : MemoryLayout) (s : NumberedSettings) (fixed changing : List ℕ) w
       let e : n ≡ numbered_refusal l s fixed changing = ap checks (sym h) in
       let b = twice n (new_board l (settings_numbered s)) zero_board in
       λ i. record { board = (b ∙ ap (λ (k : ℕ). unless k (create asked).board zero_board) e) i; refusal = e i }
-
-  -- one does not: the number is not 0, and the board is the zero board
-  module _ (h : settings_named s ≡ false) (k : ℕ) where
-    unnamed : (n : ℕ) → n ≡ checks false → (n ≡ 0 → ⊥) → record { board = zero_board; refusal = n } ≡ created_by l s fixed changing
-    unnamed n e none =
-        let f = e ∙ ap checks (sym h) in
-        let b = unless_refused (create asked).board zero_board (numbered_refusal l s fixed changing) n f none in
-        λ i. record { board = sym b i; refusal = f i }
-
-    -- conditions 1 and 2
-    pub unnamed_before : k ≡ first_failing (layout_checks l (length fixed) (length changing)) → (k ≡ 0 → ⊥) → record { board = zero_board; refusal = k } ≡ created_by l s fixed changing
-    unnamed_before e none =
-        unnamed k (e ∙ sym (first_refused (layout_checks l (length fixed) (length changing)) ((false, 3) ∷ (all_zero (take 1024 fixed), 4) ∷ []) (λ z. none (e ∙ z)))) none
-
-    -- condition 3
-    pub unnamed_by_3 : k ≡ first_failing (layout_checks l (length fixed) (length changing)) → k ≡ 0 → record { board = zero_board; refusal = 3 } ≡ created_by l s fixed changing
-    unnamed_by_3 e none =
-        let checked = layout_checks l (length fixed) (length changing) in
-        let held = (none_fails checked refl).0 (sym e ∙ none) in
-        unnamed 3 (sym (decided_behind checked ((false, 3) ∷ (all_zero (take 1024 fixed), 4) ∷ []) held)) (λ z. omega arith)
 
 mirroring_again : (m : Mirroring) → mirroring_numbered (mirroring_number m) ≡ m
 mirroring_again Vertical = refl

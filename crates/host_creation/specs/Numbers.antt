@@ -1,11 +1,12 @@
 -- Creation by numbers, since no enum crosses to C (01, The board's calls). Assumes nothing.
-use Rattle.std.specs.Prelude.{Bool, not, ◌&&◌, List, [], ◌∷◌, ◌++◌, ℕ, zero, suc, eqb, leb, length, take}
+use Rattle.std.specs.Prelude.{◌≡◌, Result, MatchResult, true, false, Bool, not, ◌&&◌, List, [], ◌∷◌, ◌++◌, ℕ, zero, suc, eqb, leb, length, take}
 use Rattle.base_shared.specs.Refusals.{first_failing, unless}
 use Rattle.base_shared.specs.Rows.{flag}
 use Rattle.memory_layout.specs.declared.regions.MemoryLayout.{MemoryLayout}
 use Rattle.memory_layout.specs.Layout.{layout_checks}
 use Rattle.vrc6_slots.specs.declared.Mirroring.{Mirroring}
 use Rattle.vrc6_slots.specs.declared.Mirroring.TheVariants.{Vertical, Horizontal, SingleScreenA, SingleScreenB, FourScreen}
+use Rattle.vrc6_slots.specs.declared.UnknownNumber.{UnknownNumber}
 use Rattle.vrc6_banking.specs.declared.banking.Revision.{Revision}
 use Rattle.vrc6_banking.specs.declared.banking.Revision.TheVariants.{A, B}
 use Rattle.vrc6_banking.specs.declared.banking.Settings.{Settings}
@@ -50,6 +51,11 @@ numbers_of s =
 -- each number names something: 0 to 4, 0 or 1, and 0 or 1 (02, change 1)
 abbrev pub settings_named : NumberedSettings → Bool
 settings_named n = leb n.mirroring 4 && leb n.revision 1 && leb n.open_bus 1
+
+-- what numbers stand for: the settings that they name, or none where one names nothing (01, The board's calls 1; 02, change 1)
+abbrev pub SettingsNumbered : NumberedSettings → Result Settings UnknownNumber → Type 0
+SettingsNumbered n r =
+    MatchResult r (λ s. (settings_named n ≡ true) × (s ≡ settings_numbered n)) (λ e. settings_named n ≡ false)
 
 -- the first failing of 1, 2, 3 and 4; here 3 is a number that names nothing (01, The board's calls 3; 01, The board's calls 4)
 abbrev pub numbered_refusal : MemoryLayout → NumberedSettings → (fixed changing : List ℕ) → ℕ

@@ -2,16 +2,19 @@
 #![tactic(auto)]
 
 ghost use Rattle.std.specs.Prelude.{◌≡◌};
-ghost use Rattle.host_creation.specs.Numbers.{created_by, mirroring_numbered, numbered, revision_numbered, settings_named, settings_numbered};
+ghost use Rattle.base_shared.specs.Numbers.{number};
+ghost use Rattle.vrc6.specs.Boards.{zero_board};
+ghost use Rattle.host_creation.specs.Numbers.{SettingsNumbered, created_by, numbered};
 
+use base_shared::Refusal;
 use memory_layout::MemoryLayout;
 use vrc6::Board;
 use vrc6::board::Created;
-use vrc6_banking::banking::{Mirroring, Revision, Settings};
+use vrc6_banking::banking::{Mirroring, Revision, Settings, UnknownNumber};
 
 // The settings of creation by numbers: mirroring 0 to 4, revision 0 for A and 1 for B, bus setting 0 for off and 1 for on.
 #[repr(C)]
-#[derive(Clone, Copy)]
+#[derive(Clone, Copy, Debug, PartialEq, Eq)]
 pub struct NumberedSettings {
     pub mirroring: u8,
     pub revision: u8,
@@ -31,49 +34,34 @@ impl NumberedSettings {
     }
 }
 
-fn mirroring_of(number: u8) -> Mirroring
-    ensures { result ≡ mirroring_numbered number }
-{
-    if number == 0 {
-        return Mirroring::Vertical;
-    }
-    if number == 1 {
-        return Mirroring::Horizontal;
-    }
-    if number == 2 {
-        return Mirroring::SingleScreenA;
-    }
-    if number == 3 {
-        return Mirroring::SingleScreenB;
-    }
-    Mirroring::FourScreen
-}
+// The settings that numbers name, if each number names something.
+impl TryFrom<NumberedSettings> for Settings {
+    type Error = UnknownNumber;
 
-fn revision_of(number: u8) -> Revision
-    ensures { result ≡ revision_numbered number }
-{
-    if number == 0 {
-        return Revision::A;
-    }
-    Revision::B
-}
+    ghost try_from_gives = { SettingsNumbered };
 
-// The settings that numbers name, the last of a kind for a number that names nothing.
-fn settings_of(numbers: NumberedSettings) -> Settings
-    ensures { result ≡ settings_numbered numbers }
-{
-    Settings {
-        mirroring: mirroring_of(numbers.mirroring),
-        revision: revision_of(numbers.revision),
-        open_bus: numbers.open_bus != 0,
+    fn try_from(numbers: NumberedSettings) -> Result<Settings, UnknownNumber> {
+        Ok(Settings {
+            mirroring: Mirroring::try_from(numbers.mirroring)?,
+            revision: Revision::try_from(numbers.revision)?,
+            open_bus: match numbers.open_bus {
+                0 => false,
+                1 => true,
+                other => return Err(UnknownNumber(other)),
+            },
+        })
     }
 }
 
-// Whether each number names something.
-fn settings_named(numbers: NumberedSettings) -> bool
-    ensures { result ≡ settings_named numbers }
+// A create that is refused: the zero board, since an empty buffer fits no layout, and the number of the refusal.
+fn refused(layout: MemoryLayout, changing: &[u8], refusal: Refusal) -> Created
+    ensures { result ≡ record { board = zero_board; refusal = number refusal } }
 {
-    (numbers.mirroring <= 4) & (numbers.revision <= 1) & (numbers.open_bus <= 1)
+    let settings = Settings::new(Mirroring::Vertical, Revision::A);
+    Created {
+        board: Board::create(layout, settings, &[], changing).board,
+        refusal: u8::from(refusal),
+    }
 }
 
 // Create refuses a number that names nothing by 3, after conditions 1 and 2.
@@ -85,16 +73,11 @@ pub fn create_numbered(
 ) -> Created
     ensures { result ≡ created_by layout settings fixed.now changing.now }
 {
-    let asked = settings_of(settings);
-    if settings_named(settings) {
-        return Board::create(layout, asked, fixed, changing);
+    if let Ok(named) = Settings::try_from(settings) {
+        return Board::create(layout, named, fixed, changing);
     }
-    // An empty buffer fits no layout, so this gives the zero board.
-    let refused = Board::create(layout, asked, &fixed[0..0], changing);
-    let board = refused.board;
-    let refusal = layout.refusal(fixed.len(), changing.len());
-    if refusal != 0 {
-        return Created { board, refusal };
+    match layout.check(fixed.len(), changing.len()) {
+        Ok(_) => refused(layout, changing, Refusal::Range),
+        Err(refusal) => refused(layout, changing, refusal),
     }
-    Created { board, refusal: 3 }
 }

@@ -33,11 +33,11 @@ impl Field {
 }
 
 // The low bits of a number that is too large for its field.
-pub fn byte(n: u32) -> u8 {
+pub(crate) fn byte(n: u32) -> u8 {
     (n % 256) as u8
 }
 
-pub fn half(n: u32) -> u16 {
+pub(crate) fn half(n: u32) -> u16 {
     (n % 65536) as u16
 }
 

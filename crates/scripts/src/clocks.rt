@@ -23,8 +23,9 @@ fn count(clocks: &mut Clocks, k: u32, ticked: bool, pending: bool, audio: Audio)
     clocks.hash = fnv_word(clocks.hash, bits_of(audio.output()));
 }
 
-// n clocks, and what they told. Where one is refused all are: a refused clock leaves the board.
-pub fn clock_times(board: &mut Board, n: u32) -> Told {
+// The board behind n clocks, and what they told. Where one is refused all are: a refused clock leaves the board.
+pub fn clock_times(given: Board, n: u32) -> (Board, Told) {
+    let mut board = given;
     let mut clocks = Clocks {
         ticks: 0,
         first: 0,
@@ -36,16 +37,11 @@ pub fn clock_times(board: &mut Board, n: u32) -> Told {
     for k in 1..=n {
         let clocked = board.clock();
         if clocked.refusal != 0 {
-            return Told::number(clocked.refusal);
+            return (given, Told::number(clocked.refusal));
         }
-        *board = clocked.board;
-        count(
-            &mut clocks,
-            k,
-            clocked.ticked,
-            board.irq.irq_pending,
-            board.audio,
-        );
+        board = clocked.board;
+        let irq = board.irq;
+        count(&mut clocks, k, clocked.ticked, irq.irq_pending, board.audio);
     }
-    Told::said(Said::Clocks(clocks))
+    (board, Told::said(Said::Clocks(clocks)))
 }

@@ -167,9 +167,9 @@ impl Session {
     }
 
     fn clock(&mut self, out: &mut Output, board: Board, n: u32) {
-        let mut next = board;
-        self.told = clock_times(&mut next, n);
+        let (next, told) = clock_times(board, n);
         self.board = Some(next);
+        self.told = told;
         if self.options.answers {
             put_clocks(out, self.told, next.irq.irq_pending);
             self.put_dump(out, &next);

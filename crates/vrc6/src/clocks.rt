@@ -18,30 +18,31 @@ impl Board {
         }
     }
 
-    fn with_engine(self, engine: Engine) -> Board
+    fn with_engine(mut self, engine: Engine) -> Board
         ensures { result ≡ with_engine self engine }
     {
-        Board {
-            irq: engine.irq,
-            audio: engine.audio,
-            ..self
-        }
+        self.irq = engine.irq;
+        self.audio = engine.audio;
+        self
     }
 
-    pub fn clock(self) -> Clocked
+    // One answer for both ways, so that the board is copied once: clocks run in loops.
+    #[inline(always)]
+    pub fn clock(mut self) -> Clocked
         ensures { result ≡ clock self }
     {
-        match self.engine().clock() {
-            Ok(next) => Clocked {
-                board: self.with_engine(next.engine),
-                ticked: next.ticked,
-                refusal: 0,
-            },
-            Err(refusal) => Clocked {
-                board: self,
-                ticked: false,
-                refusal: u8::from(refusal),
-            },
+        let (ticked, refusal) = match self.engine().clock() {
+            Ok(next) => {
+                self.irq = next.engine.irq;
+                self.audio = next.engine.audio;
+                (next.ticked, 0)
+            }
+            Err(refusal) => (false, u8::from(refusal)),
+        };
+        Clocked {
+            board: self,
+            ticked,
+            refusal,
         }
     }
 

@@ -33,6 +33,7 @@ impl Engine {
     }
 
     // Interrupt, then sound.
+    #[inline(always)]
     pub fn clock(self) -> Result<EngineClocked, Refusal>
         ensures { result ≡ engine_clock self.irq self.audio }
     {
