@@ -1,115 +1,85 @@
 // The banks that slots show, and those that were asked.
-use scene_banks::NO_BANK;
+use crate::totals::Count;
 use scene_steps::letters::{slot_right, slots_right};
 use scene_sweep::Met;
-use text_output::forms::{put_form, put_nth};
+use std::fmt;
 use text_output::{Output, put};
 
+// A bank for each of the eight slots: the one that it shows, if it is one of CHR, or the one that it must show, if one is asked.
+pub type Banks = [Option<u32>; 8];
+
+pub(crate) fn are_asked(asked: Banks) -> bool {
+    asked.iter().any(|bank| bank.is_some())
+}
+
 // When letters are looked at: at the end of the writes, behind the menu, or where the interrupt comes inside it.
-pub const AT_END: usize = 0;
-
-pub const AFTER_MENU: usize = 1;
-
-const INSIDE: usize = 2;
-
-// Whether any letters are asked: slots that show no bank are right only where none are.
-pub(crate) fn are_asked(asked: [u32; 8]) -> bool {
-    let none = [NO_BANK; 8];
-    !slots_right(none, asked)
+#[derive(Clone, Copy)]
+pub enum When {
+    AtEnd,
+    AfterMenu,
+    Inside(Met),
 }
 
-// A slot that shows another bank than the one that was asked, both in decimal and in hexadecimal.
-fn put_slot(out: &mut Output, len: usize, when: usize, slot: u32, shown: u32, asked: u32) -> usize {
-    let a = put_nth(
-        out,
-        len,
-        b"  letters|  letters after the menu|  letters inside the menu",
-        when,
-    );
-    let numbers = [slot, shown, shown, asked, asked];
-    if shown == NO_BANK {
-        let numbers = [slot, asked, asked];
-        return put_form(
-            out,
-            a,
-            b": slot %d shows no bank of chr, not %d ($%h)",
-            &numbers,
-        );
+impl fmt::Display for When {
+    fn fmt<W: fmt::Write>(&self, f: &mut fmt::Formatter<W>) -> fmt::Result {
+        f.write_str(match self {
+            When::AtEnd => "letters",
+            When::AfterMenu => "letters after the menu",
+            When::Inside(_) => "letters inside the menu",
+        })
     }
-    put_form(
-        out,
-        a,
-        b": slot %d shows bank %d ($%h), not %d ($%h)",
-        &numbers,
-    )
 }
 
-// The end of its line: inside the menu also at how many moments, and the first of them.
-fn put_when(out: &mut Output, len: usize, when: usize, met: Met) -> usize {
-    if when != INSIDE {
-        return put(out, len, b'\n');
-    }
-    let numbers = [met.count, met.first];
-    if met.count == 1 {
-        return put_form(out, len, b", on %d moment, first at clock %d\n", &numbers);
-    }
-    put_form(out, len, b", on %d moments, first at clock %d\n", &numbers)
+// A slot that shows another bank than the one asked, both in decimal and in hexadecimal.
+#[derive(Clone, Copy)]
+pub struct WrongSlot {
+    pub slot: usize,
+    pub shown: Option<u32>,
+    pub asked: u32,
 }
 
-fn put_slots(
-    out: &mut Output,
-    len: usize,
-    when: usize,
-    shown: [u32; 8],
-    asked: [u32; 8],
-    met: Met,
-) -> usize {
-    let mut n = len;
-    let mut i: usize = 0;
-    while i < 8 {
-        if !slot_right(shown[i], asked[i]) {
-            n = put_slot(out, n, when, i as u32, shown[i], asked[i]);
-            n = put_when(out, n, when, met);
+impl fmt::Display for WrongSlot {
+    fn fmt<W: fmt::Write>(&self, f: &mut fmt::Formatter<W>) -> fmt::Result {
+        let slot = self.slot;
+        let asked = self.asked;
+        match self.shown {
+            Some(bank) => write!(f, "slot {slot} shows bank {bank} (${bank:02X})")?,
+            None => write!(f, "slot {slot} shows no bank of chr")?,
         }
-        i += 1;
+        write!(f, ", not {asked} (${asked:02X})")
     }
-    n
 }
 
-// The banks that slots show at the end of the writes, or after the menu.
-pub(crate) fn put_letters(
-    out: &mut Output,
-    len: usize,
-    when: usize,
-    shown: [u32; 8],
-    asked: [u32; 8],
-) -> usize {
-    if !are_asked(asked) {
-        return len;
+impl When {
+    // A line for each slot that is wrong. Inside the menu it says at how many moments that is so, and the first of them.
+    pub(crate) fn tell_wrong(self, out: &mut Output, shown: Banks, asked: Banks) {
+        for (slot, (shown, asked)) in shown.iter().zip(asked.iter()).enumerate() {
+            let Some(bank) = *asked else { continue };
+            if slot_right(*shown, *asked) {
+                continue;
+            }
+            let wrong = WrongSlot {
+                slot,
+                shown: *shown,
+                asked: bank,
+            };
+            put!(out; "  {self}: {wrong}");
+            if let When::Inside(met) = self {
+                put!(out; ", on {}, first at clock {}", Count::of_moments(u64::from(met.count)), met.first);
+            }
+            put!(out; "\n");
+        }
     }
-    if slots_right(shown, asked) {
-        return put_nth(
-            out,
-            len,
-            b"  letters: ok\n|  letters after the menu: ok\n",
-            when,
-        );
-    }
-    let none = Met {
-        count: 0,
-        first: 0,
-        step: 0,
-    };
-    put_slots(out, len, when, shown, asked, none)
-}
 
-// The banks that they show at the first of the moments at which an interrupt meets wrong letters inside the menu.
-pub(crate) fn put_inside_slots(
-    out: &mut Output,
-    len: usize,
-    shown: [u32; 8],
-    asked: [u32; 8],
-    met: Met,
-) -> usize {
-    put_slots(out, len, INSIDE, shown, asked, met)
+    // What slots show, if any letters are asked.
+    pub(crate) fn tell(self, out: &mut Output, shown: Banks, asked: Banks) {
+        if !are_asked(asked) {
+            return;
+        }
+        if slots_right(shown, asked) {
+            put!(out; "  {self}: ok\n");
+        } else {
+            self.tell_wrong(out, shown, asked);
+        }
+    }
 }

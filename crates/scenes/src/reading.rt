@@ -1,207 +1,141 @@
-// The cells of a row read as a scene. It reports each fault, so a row's faults are all seen at once.
-use crate::faults::{
-    AT, CHR, INTERRUPTS, LETTERS, MANY_WORDS, MENU, MIRRORING, NO_DECIMAL, NO_INTERRUPTS,
-    NO_MIRRORING, NO_REVISION, NOT_THE_FILE, PLACES, PRG, Place, REVISION, TOO_LARGE, WINDOW,
-    WRITES, put_said, put_word_fault,
-};
-use crate::lists::read_words;
-use crate::row::{Starts, cell_in};
-use crate::scene::{NO_WINDOW, Scene};
-use crate::source::{Source, put_source};
+// The cells of a row read as a scene. Each fault is told, so a row's faults are all seen at once.
+use crate::faults::{FileSays, Told, WordFault};
+use crate::lists::{read_letters, read_steps};
+use crate::row::Row;
+use crate::scene::Scene;
+use crate::sheet::Sheet;
+use crate::source::{read_source, unfiled};
+use cartridge::Cartridge;
+use host_creation::NumberedSettings;
+use scene_cells::columns::Column;
 use scene_files::said::{layout_for, said_in};
-use scene_files::singles::{Single, single_of};
-use scene_steps::picture;
-use scene_steps::picture::{At, at_in};
+use scene_files::singles::{Said, SingleError, single_of};
+use scene_steps::picture::{At, AtError, at_in};
 use text_output::Output;
-use text_words::next_word;
-
-fn value_of(single: Single) -> u32 {
-    if let Single::Value(n) = single {
-        return n;
-    }
-    0
-}
+use text_words::{is_empty, next_word};
 
 // What is wrong with a cell that has no value of its column.
-fn no_value(column: usize) -> usize {
+fn no_value(column: Column) -> WordFault {
     match column {
-        REVISION => NO_REVISION,
-        MIRRORING => NO_MIRRORING,
-        INTERRUPTS => NO_INTERRUPTS,
-        _ => NO_DECIMAL,
+        Column::Revision => WordFault::NoRevision,
+        Column::Mirroring => WordFault::NoMirroring,
+        Column::Interrupts => WordFault::NoInterrupts,
+        _ => WordFault::NoDecimal,
     }
 }
 
-// What is wrong with a cell, 0 for nothing.
-fn fault_of(single: Single, column: usize) -> usize {
-    match single {
-        Single::Value(_) => 0,
-        Single::NoValue => no_value(column),
-        Single::TooLarge => TOO_LARGE,
-        Single::ManyWords => MANY_WORDS,
-        Single::NotTheFile => NOT_THE_FILE,
-    }
-}
-
-// Whether a cartridge says nothing in a column.
-fn is_unsaid(column: usize) -> bool {
-    (column == WINDOW) | (column == INTERRUPTS)
-}
-
-// What stands for an empty cell. A handler is taken to leave interrupts masked.
-fn said_for(source: Source, column: usize) -> u32 {
-    if column == WINDOW {
-        return NO_WINDOW;
-    }
-    if column == INTERRUPTS {
-        return 0;
-    }
-    let cartridge = source.cartridge;
-    said_in(cartridge, (column % 256) as u8)
-}
-
-fn single_in(text: &[u8], starts: Starts, source: Source, column: usize) -> Single {
-    let span = cell_in(text, starts, column);
-    let from = span.from;
-    let to = span.to;
-    let said = said_for(source, column);
-    let from_file = source.from_file & !is_unsaid(column);
-    single_of(&text[from..to], (column % 256) as u8, said, from_file)
-}
-
-// Where the writes end.
-fn at_cell(text: &[u8], starts: Starts) -> At {
-    let span = cell_in(text, starts, AT);
-    let from = span.from;
-    let to = span.to;
-    at_in(&text[from..to])
-}
-
-// What is wrong with it, 0 for nothing.
-fn at_fault(at: At) -> usize {
-    if let At::Wrong(number) = at {
-        return PLACES + number as usize;
-    }
-    0
-}
-
-// The cells of one word.
-fn read_singles(text: &[u8], starts: Starts, source: Source) -> Scene {
-    let prg = single_in(text, starts, source, PRG);
-    let chr = single_in(text, starts, source, CHR);
-    let revision = single_in(text, starts, source, REVISION);
-    let mirroring = single_in(text, starts, source, MIRRORING);
-    let window = single_in(text, starts, source, WINDOW);
-    let interrupts = single_in(text, starts, source, INTERRUPTS);
-    let at = at_cell(text, starts);
-    let good = (fault_of(prg, PRG) == 0)
-        & (fault_of(chr, CHR) == 0)
-        & (fault_of(revision, REVISION) == 0)
-        & (fault_of(mirroring, MIRRORING) == 0)
-        & (fault_of(window, WINDOW) == 0)
-        & (fault_of(interrupts, INTERRUPTS) == 0)
-        & (at_fault(at) == 0);
-    let cartridge = source.cartridge;
-    let layout = layout_for(cartridge, source.from_file, value_of(prg), value_of(chr));
-    Scene {
-        layout,
-        revision_b: value_of(revision) == 1,
-        mirroring: value_of(mirroring),
-        window: value_of(window),
-        at,
-        unmasked: value_of(interrupts) == 1,
-        writes: 0,
-        menu: 0,
-        good: good & (source.fault == 0),
-        len: 0,
+// What a file says in a column.
+fn said_by(file: Cartridge, column: Column) -> FileSays {
+    match column {
+        Column::Revision => FileSays::Revision(file.revision),
+        Column::Mirroring => FileSays::Mirroring(file.mirroring),
+        _ => FileSays::Length(said_in(file, column)),
     }
 }
 
 // What a fault shows of a cell: its word, or all of it if it has more than one.
-fn shown(cell: &[u8], fault: usize) -> &[u8] {
-    if (fault == MANY_WORDS) | (fault == PLACES + picture::MANY_WORDS as usize) {
+fn shown(cell: &[u8], fault: WordFault) -> &[u8] {
+    if matches!(
+        fault,
+        WordFault::ManyWords | WordFault::Place(AtError::ManyWords)
+    ) {
         return cell;
     }
-    let word = next_word(cell, 0);
-    let from = word.from;
-    let to = word.to;
-    &cell[from..to]
-}
-
-// What is wrong with the cell of one word in a column.
-fn cell_fault(text: &[u8], starts: Starts, source: Source, column: usize) -> usize {
-    if column == AT {
-        return at_fault(at_cell(text, starts));
+    match next_word(cell) {
+        Some(word) => word.bytes,
+        None => &[],
     }
-    fault_of(single_in(text, starts, source, column), column)
 }
 
-fn put_single(
-    out: &mut Output,
-    len: usize,
-    text: &[u8],
-    starts: Starts,
-    source: Source,
-    row: u32,
-    column: usize,
-) -> usize {
-    let span = cell_in(text, starts, column);
-    let from = span.from;
-    let to = span.to;
-    let cell = &text[from..to];
-    let fault = cell_fault(text, starts, source, column);
-    let at = Place {
-        row,
-        column,
-        quoted: span.quoted,
-    };
-    let told = put_word_fault(out, len, at, shown(cell, fault), fault);
-    if fault == NOT_THE_FILE {
-        return put_said(out, told, column, said_for(source, column));
+// A row beside the file that it names, if it names one.
+#[derive(Clone, Copy)]
+struct Reader<'a> {
+    row: Row<'a>,
+    file: Option<Cartridge>,
+}
+
+impl Reader<'_> {
+    // What stands for an empty cell. A cartridge says nothing of the window and the interrupts, which a handler is taken to leave
+    // masked.
+    fn said(self, column: Column) -> Said {
+        match (column, self.file) {
+            (Column::Window | Column::Interrupts, _) => Said::Default(0),
+            (_, Some(file)) => Said::File(said_in(file, column)),
+            (_, None) => Said::Default(said_in(unfiled(), column)),
+        }
     }
-    told
-}
 
-// The faults of the cells of one word.
-fn put_singles(
-    out: &mut Output,
-    len: usize,
-    text: &[u8],
-    starts: Starts,
-    source: Source,
-    row: u32,
-) -> usize {
-    let columns = [PRG, CHR, REVISION, MIRRORING, WINDOW, AT, INTERRUPTS];
-    let mut n = len;
-    let mut i: usize = 0;
-    while i < 7 {
-        n = put_single(out, n, text, starts, source, row, columns[i]);
-        i += 1;
+    fn fault(self, error: SingleError, column: Column) -> WordFault {
+        match (error, self.file) {
+            (SingleError::TooLarge, _) => WordFault::TooLarge,
+            (SingleError::ManyWords, _) => WordFault::ManyWords,
+            (SingleError::NotTheFile, Some(file)) => WordFault::NotTheFile(said_by(file, column)),
+            (SingleError::NoValue | SingleError::NotTheFile, _) => no_value(column),
+        }
     }
-    n
+
+    // Tells what is wrong with the word of a cell.
+    fn tell(self, out: &mut Output, column: Column, fault: WordFault) -> Told {
+        let word = shown(self.row.bytes(column), fault);
+        self.row.tell_word(out, column, word, fault);
+        Told
+    }
+
+    // What a cell of one word says.
+    fn single(self, out: &mut Output, column: Column) -> Result<u32, Told> {
+        match single_of(self.row.bytes(column), column, self.said(column)) {
+            Ok(number) => Ok(number),
+            Err(error) => Err(self.tell(out, column, self.fault(error, column))),
+        }
+    }
+
+    // The line on which the interrupt must come, if one is given.
+    fn window(self, out: &mut Output) -> Result<Option<u32>, Told> {
+        if is_empty(self.row.bytes(Column::Window)) {
+            return Ok(None);
+        }
+        Ok(Some(self.single(out, Column::Window)?))
+    }
+
+    // Where the writes end.
+    fn at(self, out: &mut Output) -> Result<At, Told> {
+        match at_in(self.row.bytes(Column::At)) {
+            Ok(at) => Ok(at),
+            Err(error) => Err(self.tell(out, Column::At, WordFault::Place(error))),
+        }
+    }
 }
 
-// The whole row. The steps and the banks asked go into the slices.
-pub(crate) fn read_scene(
-    text: &[u8],
-    starts: Starts,
-    source: Source,
-    writes: &mut [u32],
-    menu: &mut [u32],
-    banks: &mut [u32],
+// The whole row. All cells are read before a fault ends the work.
+pub(crate) fn read_scene<'a>(
+    sheet: Sheet<'a>,
+    row: Row,
     out: &mut Output,
-    len: usize,
-    row: u32,
-) -> Scene {
-    let mut scene = read_singles(text, starts, source);
-    let filed = put_source(out, len, text, starts, row, source.fault);
-    let told = put_singles(out, filed, text, starts, source, row);
-    let first = read_words(text, starts, writes, out, told, row, WRITES);
-    let second = read_words(text, starts, menu, out, first.len, row, MENU);
-    let letters = read_words(text, starts, banks, out, second.len, row, LETTERS);
-    scene.writes = first.count;
-    scene.menu = second.count;
-    scene.len = letters.len;
-    scene.good = scene.good & first.good & second.good & letters.good;
-    scene
+) -> Result<Scene<'a>, Told> {
+    let source = read_source(sheet.rt, sheet.path, row, out);
+    let file = source.unwrap_or(None);
+    let reader = Reader { row, file };
+    let prg = reader.single(out, Column::Prg);
+    let chr = reader.single(out, Column::Chr);
+    let revision = reader.single(out, Column::Revision);
+    let mirroring = reader.single(out, Column::Mirroring);
+    let window = reader.window(out);
+    let at = reader.at(out);
+    let interrupts = reader.single(out, Column::Interrupts);
+    let alloc = sheet.rt.alloc();
+    let writes = read_steps(alloc, row, Column::Writes, out);
+    let menu = read_steps(alloc, row, Column::Menu, out);
+    let asked = read_letters(row, out);
+    source?;
+    Ok(Scene {
+        layout: layout_for(file.unwrap_or(unfiled()), file.is_some(), prg?, chr?),
+        settings: NumberedSettings::new((mirroring? % 256) as u8, (revision? % 256) as u8),
+        rom: sheet.rom,
+        window: window?,
+        at: at?,
+        unmasked: interrupts? == 1,
+        writes: writes?,
+        menu: menu?,
+        asked: asked?,
+    })
 }

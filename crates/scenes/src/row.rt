@@ -1,135 +1,123 @@
 // A row: its cells, and what is wrong with their quotes.
-ghost use Rattle.std.specs.Prelude.{◌%◌};
 ghost use Rattle.scene_cells.specs.Rows.{CellUnder};
 
-use crate::faults::{BEHIND_A_QUOTE, NO_COLUMN, put_fault};
-use scene_cells::columns::column_of;
-use scene_cells::lookup::{cell_under, nth_cell};
-use scene_cells::{BEHIND_QUOTE, Cell, cell_at};
+use crate::faults::{Fault, Place, WordFault};
+use scene_cells::columns::{Column, column_of};
+use scene_cells::lookup::{Cells, cell_under};
+use scene_cells::{Cell, CellFault};
 use text_output::Output;
 use text_words::is_empty;
+use text_words::names::Words;
 
-// Where the header and a row start, and what stands between cells.
+// The sheet from its header and from a row on, and what stands between cells.
 #[derive(Clone, Copy)]
-pub struct Starts {
-    pub header: usize,
-    pub row: usize,
+pub struct Row<'a> {
+    pub header: &'a [u8],
+    pub cells: &'a [u8],
     pub separator: u8,
+    // As a spreadsheet shows it: the header is row 1.
+    pub number: u32,
 }
 
-// A row's end, how many cells were read, how many it has up to the last that is not blank, what is wrong, and the output buffer's
-// bytes.
+// What is read of a row on the way to its end.
 #[derive(Clone, Copy)]
-pub struct Row {
-    pub next: usize,
-    pub cells: usize,
+pub struct Shape<'a> {
+    // The sheet behind the row.
+    pub rest: &'a [u8],
+    // How many cells it has up to the last that is not blank.
     pub filled: usize,
-    // Where the header goes on, or that it has ended, and whether a cell stands under one of its cells that has no name.
-    pub head: usize,
-    pub headed: bool,
+    // Whether a cell that is not blank stands under one of the header's that has no name.
     pub unnamed: bool,
-    pub good: bool,
-    pub len: usize,
-}
-
-// The row's cell in a column.
-pub(crate) fn cell_in(text: &[u8], starts: Starts, column: usize) -> Cell
-    ensures { CellUnder text.now starts.separator starts.header starts.row (column % 256) result }
-{
-    cell_under(
-        text,
-        starts.header,
-        starts.row,
-        (column % 256) as u8,
-        starts.separator,
-    )
-}
-
-// The column of the header cell that has k cells before it, or NO_COLUMN.
-fn column_at(text: &[u8], starts: Starts, k: usize) -> usize {
-    let cell = nth_cell(text, starts.header, k, starts.separator);
-    let from = cell.from;
-    let to = cell.to;
-    column_of(&text[from..to]) as usize
+    // Whether each quote is right.
+    pub quoted_right: bool,
 }
 
 // What is wrong with the quotes of a cell, which may have no column.
-fn quote_fault(column: usize, wrong: u8) -> usize {
-    if (wrong == BEHIND_QUOTE) & (column == NO_COLUMN) {
-        return BEHIND_A_QUOTE;
+fn quote_fault(wrong: CellFault, column: Option<Column>) -> Fault {
+    match wrong {
+        CellFault::Unclosed => Fault::Unclosed,
+        CellFault::BehindQuote if column.is_none() => Fault::BehindAQuote,
+        CellFault::BehindQuote => Fault::BehindQuote,
     }
-    wrong as usize
 }
 
-// The next cell of the header, beside the row's.
-fn take_head(given: Row, text: &[u8], separator: u8, blank: bool) -> Row {
-    let mut row = given;
-    if !given.headed {
-        return row;
+impl<'a> Row<'a> {
+    // The row's cell in a column, if header and row have one.
+    pub(crate) fn cell(self, column: Column) -> Option<Cell<'a>>
+        ensures { CellUnder self.entry.separator self.entry.header.now self.entry.cells.now column result }
+    {
+        cell_under(self.header, self.cells, column, self.separator)
     }
-    let cell = cell_at(text, given.head, separator);
-    let from = cell.from;
-    let to = cell.to;
-    row.unnamed = given.unnamed | (is_empty(&text[from..to]) & !blank);
-    row.head = cell.next;
-    row.headed = !cell.last;
-    row
-}
 
-// Takes the next cell.
-fn take(
-    given: Row,
-    text: &[u8],
-    starts: Starts,
-    out: &mut Output,
-    number: u32,
-    cell: Cell,
-    bytes: &[u8],
-) -> Row {
-    let blank = is_empty(bytes);
-    let mut row = take_head(given, text, starts.separator, blank);
-    row.next = cell.next;
-    row.cells = std::num::wrapping_add_usize(given.cells, 1);
-    if !blank {
-        row.filled = row.cells;
-    }
-    if cell.wrong != 0 {
-        let column = column_at(text, starts, given.cells);
-        let fault = quote_fault(column, cell.wrong);
-        row.good = false;
-        row.len = put_fault(out, given.len, number, column, fault);
-    }
-    row
-}
-
-// The row with its number, as a spreadsheet shows it.
-pub(crate) fn read_row(
-    text: &[u8],
-    starts: Starts,
-    out: &mut Output,
-    len: usize,
-    number: u32,
-) -> Row {
-    let mut row = Row {
-        next: starts.row,
-        cells: 0,
-        filled: 0,
-        head: starts.header,
-        headed: true,
-        unnamed: false,
-        good: true,
-        len,
-    };
-    let mut left = std::num::wrapping_add_usize(text.len(), 1);
-    while left > 0 {
-        left -= 1;
-        let cell = cell_at(text, row.next, starts.separator);
-        let from = cell.from;
-        let to = cell.to;
-        row = take(row, text, starts, out, number, cell, &text[from..to]);
-        if cell.last {
-            break;
+    // The bytes of that cell, none where there is no cell.
+    pub(crate) fn bytes(self, column: Column) -> &'a [u8] {
+        match self.cell(column) {
+            Some(cell) => cell.bytes,
+            None => &[],
         }
     }
-    row
+
+    // The words of that cell.
+    pub(crate) fn words(self, column: Column) -> Words<'a> {
+        Words {
+            text: self.bytes(column),
+        }
+    }
+
+    // A fault of the whole row, or of the cell in a column.
+    pub(crate) fn tell(self, out: &mut Output, column: Option<Column>, fault: Fault) {
+        let row = self.number;
+        Place { row, column }.tell(out, fault);
+    }
+
+    // A fault of a word of a cell.
+    pub(crate) fn tell_word(self, out: &mut Output, column: Column, word: &[u8], fault: WordFault) {
+        let row = self.number;
+        let quoted = self.cell(column).is_some_and(|cell| cell.quoted);
+        let place = Place {
+            row,
+            column: Some(column),
+        };
+        place.tell_word(out, word, quoted, fault);
+    }
+
+    // Goes through the cells of the row, beside those of the header, and tells each quote that is wrong.
+    pub(crate) fn read(self, out: &mut Output) -> Shape<'a> {
+        let mut shape = Shape {
+            rest: self.cells,
+            filled: 0,
+            unnamed: false,
+            quoted_right: true,
+        };
+        let mut heads = Cells::new(self.header, self.separator);
+        let mut count: usize = 0;
+        for cell in Cells::new(self.cells, self.separator) {
+            let head = heads.next();
+            count = count.saturating_add(1);
+            if !is_empty(cell.bytes) {
+                shape.filled = count;
+                shape.unnamed |= head.is_some_and(|head| is_empty(head.bytes));
+            }
+            if let Some(wrong) = cell.wrong {
+                let column = head.and_then(|head| column_of(head.bytes));
+                shape.quoted_right = false;
+                self.tell(out, column, quote_fault(wrong, column));
+            }
+            shape.rest = cell.rest;
+        }
+        shape
+    }
+}
+
+impl Shape<'_> {
+    // Why a row whose quotes are right is not played, under a header of so many cells.
+    pub(crate) fn fault(self, cells: usize) -> Option<Fault> {
+        if self.filled == 0 {
+            return Some(Fault::Blank);
+        }
+        if cells < self.filled {
+            return Some(Fault::ManyCells);
+        }
+        self.unnamed.then_some(Fault::Unnamed)
+    }
 }

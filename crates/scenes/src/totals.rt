@@ -1,99 +1,134 @@
-// What is kept from row to row.
+// What rows come to, and how many came to what.
+use std::fmt;
+
+// Whether a scene is as its row asks.
+#[derive(Clone, Copy, PartialEq, Eq)]
+pub enum Judged {
+    Wrong,
+    Right,
+    // The row asks nothing: no window, no letters, and no sweep.
+    Unasked,
+}
+
+impl fmt::Display for Judged {
+    fn fmt<W: fmt::Write>(&self, f: &mut fmt::Formatter<W>) -> fmt::Result {
+        f.write_str(match self {
+            Judged::Wrong => "wrong",
+            Judged::Right => "right",
+            Judged::Unasked => "nothing asked",
+        })
+    }
+}
+
+// How many moments a menu was swept over, and how many of them were wrong.
+#[derive(Clone, Copy)]
+pub struct Moments {
+    pub swept: u32,
+    pub wrong: u32,
+}
 
 // What a row came to.
-pub const BLANK_ROW: u8 = 0;
-
-pub const BAD_ROW: u8 = 1;
-
-pub const WRONG_SCENE: u8 = 2;
-
-pub const RIGHT_SCENE: u8 = 3;
-
-// A scene that asks nothing: no window, no letters, and no sweep.
-pub const UNASKED_SCENE: u8 = 4;
-
 #[derive(Clone, Copy)]
-pub struct Outcome {
-    // One of the five above.
-    pub kind: u8,
-    // How many moments were swept, and how many of them were wrong.
-    pub moments: u32,
-    pub wrong: u32,
-    // How many bytes the output buffer holds.
-    pub len: usize,
+pub enum Outcome {
+    Blank,
+    Bad,
+    // The moments, where a menu was swept.
+    Played(Judged, Option<Moments>),
 }
 
-impl Outcome {
-    pub(crate) fn unplayed(kind: u8, len: usize) -> Outcome {
-        Outcome {
-            kind,
-            moments: 0,
-            wrong: 0,
-            len,
-        }
-    }
+// A number of what has one name for one and another for several.
+#[derive(Clone, Copy)]
+pub struct Count {
+    pub number: u64,
+    pub one: &'static str,
+    pub several: &'static str,
+}
 
-    pub(crate) fn played(kind: u8, moments: u32, wrong: u32, len: usize) -> Outcome {
-        Outcome {
-            kind,
-            moments,
-            wrong,
-            len,
+impl Count {
+    // So many moments.
+    pub(crate) fn of_moments(number: u64) -> Count {
+        Count {
+            number,
+            one: "moment",
+            several: "moments",
         }
     }
 }
 
-#[derive(Clone, Copy)]
+impl fmt::Display for Count {
+    fn fmt<W: fmt::Write>(&self, f: &mut fmt::Formatter<W>) -> fmt::Result {
+        let number = self.number;
+        let name = if number == 1 { self.one } else { self.several };
+        write!(f, "{number} {name}")
+    }
+}
+
+// A sheet can have more moments than 32 bits count.
+#[derive(Clone, Copy, Default)]
 pub struct Totals {
-    // How many bytes the output buffer holds.
-    pub len: usize,
-    // The number of the row, as a spreadsheet shows it: the header is row 1.
-    pub row: u32,
-    pub scenes: u32,
-    pub right: u32,
-    pub wrong: u32,
-    pub unasked: u32,
-    // A sheet can have more moments than 32 bits count. The second counts those that are wrong.
-    pub moments: u64,
-    pub missed: u64,
-    pub bad: u32,
+    scenes: u64,
+    right: u64,
+    wrong: u64,
+    unasked: u64,
+    moments: u64,
+    missed: u64,
+    bad: u64,
 }
 
-fn sum(a: u32, b: u32) -> u32 {
-    std::num::wrapping_add_u32(a, b)
+fn raise(counter: &mut u64, more: u64) {
+    *counter = counter.saturating_add(more);
 }
 
 impl Totals {
-    pub(crate) fn new(len: usize) -> Totals {
-        Totals {
-            len,
-            row: 1,
-            scenes: 0,
-            right: 0,
-            wrong: 0,
-            unasked: 0,
-            moments: 0,
-            missed: 0,
-            bad: 0,
+    // How many moments were swept.
+    pub(crate) fn swept(&self) -> u64 {
+        self.moments
+    }
+
+    // Counts the next row.
+    pub(crate) fn add(&mut self, row: Outcome) {
+        match row {
+            Outcome::Blank => {}
+            Outcome::Bad => raise(&mut self.bad, 1),
+            Outcome::Played(judged, moments) => self.add_scene(judged, moments),
         }
     }
 
-    pub(crate) fn next_row(self) -> u32 {
-        sum(self.row, 1)
+    fn add_scene(&mut self, judged: Judged, moments: Option<Moments>) {
+        raise(&mut self.scenes, 1);
+        match judged {
+            Judged::Wrong => raise(&mut self.wrong, 1),
+            Judged::Right => raise(&mut self.right, 1),
+            Judged::Unasked => raise(&mut self.unasked, 1),
+        }
+        if let Some(moments) = moments {
+            raise(&mut self.moments, u64::from(moments.swept));
+            raise(&mut self.missed, u64::from(moments.wrong));
+        }
     }
+}
 
-    // With the next row.
-    pub(crate) fn add(mut self, row: Outcome) -> Totals {
-        let kind = row.kind;
-        self.len = row.len;
-        self.row = sum(self.row, 1);
-        self.scenes = sum(self.scenes, (WRONG_SCENE <= kind) as u32);
-        self.right = sum(self.right, (kind == RIGHT_SCENE) as u32);
-        self.wrong = sum(self.wrong, (kind == WRONG_SCENE) as u32);
-        self.unasked = sum(self.unasked, (kind == UNASKED_SCENE) as u32);
-        self.moments = std::num::wrapping_add_u64(self.moments, row.moments as u64);
-        self.missed = std::num::wrapping_add_u64(self.missed, row.wrong as u64);
-        self.bad = sum(self.bad, (kind == BAD_ROW) as u32);
-        self
+impl fmt::Display for Totals {
+    fn fmt<W: fmt::Write>(&self, f: &mut fmt::Formatter<W>) -> fmt::Result {
+        let scenes = Count {
+            number: self.scenes,
+            one: "scene",
+            several: "scenes",
+        };
+        let moments = Count::of_moments(self.moments);
+        let bad = Count {
+            number: self.bad,
+            one: "bad row",
+            several: "bad rows",
+        };
+        let right = self.right;
+        let wrong = self.wrong;
+        let unasked = self.unasked;
+        write!(
+            f,
+            "{scenes}, {right} right, {wrong} wrong, {unasked} with nothing asked, "
+        )?;
+        let missed = self.missed;
+        write!(f, "{moments} swept, {missed} wrong\n{bad}\n")
     }
 }

@@ -18,14 +18,12 @@ impl Board {
         }
     }
 
-    fn with_engine(self, engine: Engine) -> Board
+    fn with_engine(mut self, engine: Engine) -> Board
         ensures { result ≡ with_engine self engine }
     {
-        Board {
-            irq: engine.irq,
-            audio: engine.audio,
-            ..self
-        }
+        self.irq = engine.irq;
+        self.audio = engine.audio;
+        self
     }
 
     // One answer for both ways, so that the board is copied once: clocks run in loops.

@@ -15,19 +15,18 @@ use vrc6_parts::writes::{Part, reached, write_byte};
 use vrc6_tables::{chr_pages, prg_pages};
 
 impl Board {
+    // A board is changed in place and not by a struct update, which would copy its tables once more.
+
     // A bank register takes a byte, and every entry is rebuilt from the banking values. Above the limits
     // of a layout the board stays; no caller comes here so.
-    fn write_bank(self, register: BankRegister, val: u8) -> Board
+    fn write_bank(mut self, register: BankRegister, val: u8) -> Board
         ensures { within_limits self.layout ≡ true → result ≡ register_written (OfBank register) val self }
     {
         if let Some(limited) = self.layout.limited() {
             let banking = self.banking.write_register(register, val);
-            return Board {
-                prg_pages: prg_pages(limited, banking),
-                chr_pages: chr_pages(limited, banking),
-                banking,
-                ..self
-            };
+            self.prg_pages = prg_pages(limited, banking);
+            self.chr_pages = chr_pages(limited, banking);
+            self.banking = banking;
         }
         self
     }
@@ -43,23 +42,19 @@ impl Board {
     }
 
     // A register of the sound takes the byte of a CPU write that reaches one.
-    pub fn write_sound(self, addr: u16, val: u8) -> Board
+    pub fn write_sound(mut self, addr: u16, val: u8) -> Board
         ensures { Reaches Sound self addr → result ≡ written_at self addr val }
     {
-        Board {
-            audio: self.audio.write_at(self.banking.revision_b, addr, val),
-            ..self
-        }
+        self.audio = self.audio.write_at(self.banking.revision_b, addr, val);
+        self
     }
 
     // A register of the interrupt takes the byte of a CPU write that reaches one.
-    pub fn write_line(self, addr: u16, val: u8) -> Board
+    pub fn write_line(mut self, addr: u16, val: u8) -> Board
         ensures { Reaches Interrupt self addr → result ≡ written_at self addr val }
     {
-        Board {
-            irq: self.irq.write_at(self.banking.revision_b, addr, val),
-            ..self
-        }
+        self.irq = self.irq.write_at(self.banking.revision_b, addr, val);
+        self
     }
 
     // The register that a CPU write reaches takes its byte.

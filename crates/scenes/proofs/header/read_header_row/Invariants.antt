@@ -1,8 +1,0 @@
--- `read_header_row` is safe and ends. Assumes nothing.
-use Rattle.scenes.proofs.header.read_header_row.Given as goal
-
-abbrev pub invariant-loop-left : goal.invariant-loop-left
-invariant-loop-left l = Unit {0}
-
-abbrev pub decreases-loop-left : goal.decreases-loop-left
-decreases-loop-left l = l.left
