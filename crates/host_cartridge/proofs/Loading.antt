@@ -139,14 +139,18 @@ module _ (file fixed changing : List ℕ) where
     sym (unless_refused (replicate (length changing) 0) changing refusal (number r) e (never_zero r)),
   )
 
-  pub filled : (c : Cartridge) → read_header file ≡ Ok c
-      → (z : first_failing (layout_checks c.layout (length fixed) (length changing)) ≡ 0) → {first second : List ℕ}
-      → first ≡ take (length fixed) (rom_from c.prg_start file) → second ≡ replicate (length changing) 0
-      → (first ≡ fixed_filled file fixed changing) × (second ≡ changing_filled file fixed changing)
-  unfolding refusal
-  filled c h z a b =
-      let none : refusal ≡ 0 = sym (checked file (length fixed) (length changing) c h) ∙ z in
-      let fit = fitting file (length fixed) (length changing) c h z in (
-        a ∙ loaded file c h (length fixed) (length changing) fit ∙ sym (unless_done (fixed_of file) fixed refusal refusal refl none),
-        b ∙ sym (unless_done (replicate (length changing) 0) changing refusal refusal refl none),
-      )
+  module _ (c : Cartridge) (h : read_header file ≡ Ok c)
+      (z : first_failing (layout_checks c.layout (length fixed) (length changing)) ≡ 0) where
+    none : refusal ≡ 0
+    unfolding refusal
+    none = sym (checked file (length fixed) (length changing) c h) ∙ z
+
+    pub fixed_is : {first : List ℕ} → first ≡ take (length fixed) (rom_from c.prg_start file) → first ≡ fixed_filled file fixed changing
+    unfolding refusal
+    fixed_is a =
+        let fit = fitting file (length fixed) (length changing) c h z in
+        a ∙ loaded file c h (length fixed) (length changing) fit ∙ sym (unless_done (fixed_of file) fixed refusal refusal refl none)
+
+    pub changing_is : {second : List ℕ} → second ≡ replicate (length changing) 0 → second ≡ changing_filled file fixed changing
+    unfolding refusal
+    changing_is b = b ∙ sym (unless_done (replicate (length changing) 0) changing refusal refusal refl none)

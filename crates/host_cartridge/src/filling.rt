@@ -1,21 +1,10 @@
 // Both buffers of a cartridge's layout, filled from its file.
-ghost use Rattle.std.specs.Prelude.{◌≡◌, ◌+◌, ◌≤◌, length, take};
+ghost use Rattle.std.specs.Prelude.{◌≡◌, length};
 ghost use Rattle.base_shared.specs.Numbers.{number_of};
-ghost use Rattle.host_cartridge.specs.Filled.{changing_filled, fill_refusal, fixed_filled, rom_from};
+ghost use Rattle.host_cartridge.specs.Filled.{changing_filled, fill_refusal, fixed_filled};
 
 use base_shared::Refusal;
 use cartridge_header::read_header;
-
-// A page of zeros, then the file from PRG on: PRG and CHR stand in the file as they do in the buffer, CHR where PRG ends.
-fn fill_fixed(file: &[u8], start: usize, fixed: &mut [u8])
-    requires page { 1024 ≤ length fixed.old }
-    requires bytes { start + length fixed.old ≤ 1024 + length file.now }
-    ensures { fixed.new ≡ take (length fixed.old) (rom_from start file.now) }
-{
-    let (zeros, rom) = fixed.split_at_mut(1024);
-    zeros.fill(0);
-    rom.copy_from_slice(&file[start..start + rom.len()]);
-}
 
 // Refused by 5, 6 or 7 as the header is, then by 2 if a buffer has another length than the layout's.
 pub fn fill_from_file(file: &[u8], fixed: &mut [u8], changing: &mut [u8]) -> Result<(), Refusal>
@@ -25,7 +14,11 @@ pub fn fill_from_file(file: &[u8], fixed: &mut [u8], changing: &mut [u8]) -> Res
 {
     let cartridge = read_header(file)?;
     cartridge.layout.check(fixed.len(), changing.len())?;
-    fill_fixed(file, cartridge.prg_start as usize, fixed);
+    // PRG and CHR stand in the file as they do in the buffer, CHR where PRG ends.
+    let start = cartridge.prg_start as usize;
+    let (zeros, rom) = fixed.split_at_mut(1024);
+    zeros.fill(0);
+    rom.copy_from_slice(&file[start..start + rom.len()]);
     changing.fill(0);
     Ok(())
 }

@@ -1,8 +1,10 @@
 -- `fill_from_file` meets its contract. Assumes nothing.
+use native.Mathlib.Omega.{arith}
 use Rattle.std.proofs.Common.{sym, ap, ◌∙◌, length}
 use Rattle.std.proofs.lemmas.Result.{err_from_is_err_and}
 use Rattle.base_shared.specs.Numbers.{number_of}
-use Rattle.host_cartridge.proofs.Loading.{of_refused, checked, fitting, enough, kept, filled}
+use Rattle.host_cartridge.proofs.Runs.{behind_zeros}
+use Rattle.host_cartridge.proofs.Loading.{of_refused, checked, kept, fixed_is, changing_is}
 use Rattle.host_cartridge.proofs.filling.fill_from_file.Goals as goal
 
 pub returns-in_err-cartridge-clause-value : goal.returns-in_err-cartridge-clause-value
@@ -29,12 +31,6 @@ returns-in_err-check-clause-changing_after c =
     (sym (ap number_of c.in_err-check.was) ∙ c.check.ensures.number
     ∙ checked c.args.file.now (length c.args.fixed.now) (length c.args.changing.now) _ (sym c.read_header.ensures ∙ c.in_ok-cartridge.was))).1
 
-pub fill_fixed-requires-clause-bytes : goal.fill_fixed-requires-clause-bytes
-fill_fixed-requires-clause-bytes c =
-    let h = sym c.read_header.ensures ∙ c.in_ok-cartridge.was in
-    enough c.args.file.now _ h (length c.args.fixed.now) (length c.args.changing.now)
-    (fitting c.args.file.now (length c.args.fixed.now) (length c.args.changing.now) _ h (sym c.check.ensures.number ∙ ap number_of c.in_ok-check.was))
-
 pub returns-clause-value : goal.returns-clause-value
 returns-clause-value c =
     sym (ap number_of c.in_ok-check.was) ∙ c.check.ensures.number
@@ -42,10 +38,12 @@ returns-clause-value c =
 
 pub returns-clause-fixed_after : goal.returns-clause-fixed_after
 returns-clause-fixed_after c =
-    (filled c.args.file.now c.args.fixed.now c.args.changing.now _ (sym c.read_header.ensures ∙ c.in_ok-cartridge.was)
-    (sym c.check.ensures.number ∙ ap number_of c.in_ok-check.was) c.fill_fixed.ensures (c.fill.ensures.after (λ y h. h))).0
+    let s = c.split_at_mut-zeros.ensures in
+    fixed_is c.args.file.now c.args.fixed.now c.args.changing.now _ (sym c.read_header.ensures ∙ c.in_ok-cartridge.was)
+    (sym c.check.ensures.number ∙ ap number_of c.in_ok-check.was)
+    (behind_zeros _ _ _ _ _ _ _ (omega (arith, s.front_len, s.back_len)) s.front_len s.back_len (c.fill.ensures.after (λ y h. h)) c.copy_from_slice.ensures.after)
 
 pub returns-clause-changing_after : goal.returns-clause-changing_after
 returns-clause-changing_after c =
-    (filled c.args.file.now c.args.fixed.now c.args.changing.now _ (sym c.read_header.ensures ∙ c.in_ok-cartridge.was)
-    (sym c.check.ensures.number ∙ ap number_of c.in_ok-check.was) c.fill_fixed.ensures (c.fill.ensures.after (λ y h. h))).1
+    changing_is c.args.file.now c.args.fixed.now c.args.changing.now _ (sym c.read_header.ensures ∙ c.in_ok-cartridge.was)
+    (sym c.check.ensures.number ∙ ap number_of c.in_ok-check.was) (c.fill-2.ensures.after (λ y h. h))
