@@ -1,7 +1,7 @@
 // The board's calls for a host that keeps one board: it lends the board, and finds it advanced.
 //
 // Every call is total and refuses by number. Refused, it leaves board and buffers as they were; only create leaves the
-// zero board. Board and buffers cross as references, an answer as a number or a small struct.
+// zero board. Board and buffers cross as references, each buffer as a parameter of its own, an answer as a number or a small struct.
 #![tactic(auto)]
 
 pub mod files;

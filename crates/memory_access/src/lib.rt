@@ -1,6 +1,7 @@
 // One access to the two lent buffers through an entry: check, byte, store and view (tetanes-core's memory.rs, `prg_peek`,
 // `prg_write`, `chr_peek`, `chr_write`). The functions take the parts of a board that they need, layout, entry and
-// buffers; `byte_shown` and `store` check nothing.
+// buffers; `byte_shown` and `store` check nothing. Both buffers are parameters of their own: C lends them so, and a read borrows
+// both while a write changes one.
 #![tactic(auto)]
 
 ghost use Rattle.std.specs.Prelude.{◌≡◌, ◌++◌, ◌+◌, ◌≤◌, ◌<◌, get_or, length};

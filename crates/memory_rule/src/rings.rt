@@ -7,6 +7,8 @@ use crate::bank_count;
 use memory_layout::Region;
 use memory_pages::Page;
 
+// That it is closed is asked by a clause, and is no ghost field: definitions and laws speak of rings of any region, also of one
+// that no layout has.
 #[derive(Clone, Copy, Debug, PartialEq, Eq)]
 pub struct PageRing {
     pub first: Page,

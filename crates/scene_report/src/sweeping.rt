@@ -33,6 +33,7 @@ pub fn sweep_clocks(
     let mut tally = None;
     let mut irq = start;
     let mut from: u32 = 0;
+    // A turn goes on by as many clocks as its run has.
     while from < clocks {
         let run = given.run(irq, from, clocks, menu);
         tally = tallied(tally, from, run);

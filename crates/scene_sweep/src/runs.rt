@@ -71,6 +71,7 @@ impl Sweep {
         ensures { RunOf self menu.now irq from clocks result }
     {
         let mut run = Run::of(self.seen(irq, from, menu), irq, from);
+        // The run counts its clocks itself.
         while run.to < clocks {
             let seen = self.seen(run.irq, run.to, menu);
             if seen.verdict != run.first.verdict {

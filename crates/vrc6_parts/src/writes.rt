@@ -29,7 +29,8 @@ fn values_in_range(banking: Banking, engine: Engine, addr: u16) -> bool
     (addr < 0x8000) || (banking.in_range() & engine.in_range())
 }
 
-// A CPU write's byte, if nothing is refused, by the parts of a board that it checks.
+// A CPU write's byte, if nothing is refused. The parts of a board that it checks come one by one, so that a call with the board lent
+// copies no board.
 pub fn write_byte(
     layout: MemoryLayout,
     page: Page,
