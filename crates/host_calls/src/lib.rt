@@ -9,7 +9,9 @@ pub mod files;
 ghost use Rattle.std.specs.Prelude.{◌≡◌};
 ghost use Rattle.vrc6_parts.specs.Reads.{by_cpu, by_picture};
 ghost use Rattle.vrc6.specs.Boards.{held_by};
-ghost use Rattle.vrc6.specs.Calls.{byte_read, clock, cpu_write, cpu_write_left, forecast, level, picture_write, picture_write_left, reset};
+ghost use Rattle.vrc6.specs.Calls.{byte_read, clock, cpu_write, cpu_write_left, forecast, level, picture_write, picture_write_left, reset, written_at};
+ghost use Rattle.vrc6.specs.Reaches.{Reaches};
+ghost use Rattle.vrc6_parts.specs.declared.writes.Part.TheVariants.{Banks, Interrupt, Sound};
 ghost use Rattle.host_creation.specs.Numbers.{created_by};
 ghost use Rattle.host_answers.specs.Encoded.{clock_numbered, forecast_encoded, level_encoded, page_at, steady_clocked};
 ghost use Rattle.host_calls.specs.Answers.{byte_answer, tick_answer, tick_decoded};
@@ -114,6 +116,28 @@ pub fn vrc6_picture_read(board: &mut Board, fixed: &[u8], changing: &[u8], addr:
     Peeked::from(picture_peek(board.layout, page, fixed, changing, addr))
 }
 
+// A bank register takes a byte. Out of line, so that other writes make no room for a second board.
+#[inline(never)]
+fn write_banks(board: &mut Board, addr: u16, val: u8)
+    ensures { Reaches Banks board.old addr → board.new ≡ written_at board.old addr val }
+{
+    *board = board.write_banks(addr, val);
+}
+
+// A register of the sound takes a byte, in place, so that the board is not copied.
+fn write_sound(board: &mut Board, addr: u16, val: u8)
+    ensures { Reaches Sound board.old addr → board.new ≡ written_at board.old addr val }
+{
+    board.audio = board.audio.write_at(board.banking.revision_b, addr, val);
+}
+
+// A register of the interrupt takes a byte, in place likewise.
+fn write_line(board: &mut Board, addr: u16, val: u8)
+    ensures { Reaches Interrupt board.old addr → board.new ≡ written_at board.old addr val }
+{
+    board.irq = board.irq.write_at(board.banking.revision_b, addr, val);
+}
+
 // The byte, then the register. The answer is the refusal's number.
 pub fn vrc6_cpu_write(
     board: &mut Board,
@@ -145,9 +169,9 @@ pub fn vrc6_cpu_write(
         return u8::from(refusal);
     }
     match reached(board.banking.revision_b, addr) {
-        Some(Part::Banks) => *board = board.write_banks(addr, val),
-        Some(Part::Sound) => *board = board.write_sound(addr, val),
-        Some(Part::Interrupt) => *board = board.write_line(addr, val),
+        Some(Part::Banks) => write_banks(board, addr, val),
+        Some(Part::Sound) => write_sound(board, addr, val),
+        Some(Part::Interrupt) => write_line(board, addr, val),
         None => {}
     }
     0

@@ -22,7 +22,7 @@ use Rattle.scene_laws.specs.Sweeps.{HasVerdict, steps_of}
 abbrev pub scene_written : Creation → (writes : List (List ℕ)) → State
 scene_written c ws = after (start c) (calls_of (steps_of ws))
 
--- the end that the contract of `play_scene` names
+-- the end that the contract of `Scene::play` names
 abbrev pub end_from : Creation → (writes menu : List (List ℕ)) → Result Ended ℕ
 end_from c ws ms = end_of c.layout (numbers_of c.settings) c.fixed c.changing (steps_of ws) (steps_of ms)
 

@@ -7,7 +7,7 @@ use crate::error::LineError;
 use text_words::names::{Words, place_in};
 use text_words::number::{NumberError, in_base};
 
-// The number of `none`: no forecast is as large.
+// The number of `none`, which stands where any value may: no forecast is as large.
 pub const NONE: u32 = u32::MAX;
 
 // A word's number, hexadecimal behind `$`.

@@ -65,7 +65,7 @@ fn choice(words: &mut Words<'_>, names: &[u8]) -> Result<u32, LineError>
     Ok(name_after(words, names)? as u32)
 }
 
-// The argument of a letter.
+// The argument of a letter. The forms of lines are words of such letters, so an enum of them would be a second table of the same.
 #[tactic(auto, unfolding(crate::specs::Lines::argument_by))]
 fn argument(words: &mut Words<'_>, letter: u8) -> Result<u32, LineError>
     ensures { read (words_of words.new.text.now) result ≡ argument_by letter (words_of words.old.text.now) }

@@ -29,7 +29,7 @@ pub enum Name {
     Heading,
 }
 
-// What the names stand for, in the order of `LINE_NAMES`.
+// What the names stand for, in the order of `line_names` (specs/Lines.antt).
 pub const NAMES: [Name; 32] = [
     Name::Call(CallName::Read),
     Name::Call(CallName::Read),

@@ -7,7 +7,7 @@ use memory_pages::Page;
 use script_lines::values::BoardValue;
 use vrc6::Board;
 
-// In the order of their names (script_lines, `layout_fields`).
+// In the order of their names (script_lines, `layout_fields`). A script names one by its place, so an enum of five would say no more.
 fn layout_value(layout: &MemoryLayout, at: usize) -> u32 {
     match at % 5 {
         0 => layout.prg_rom,
