@@ -3,7 +3,7 @@ ghost use Rattle.std.specs.Prelude.{◌≡◌};
 ghost use Rattle.registers.specs.Decode.{decode};
 ghost use Rattle.scene_moments.specs.declared.moment.Moment.TheVariants.{Waiting};
 ghost use Rattle.scene_moments.specs.Verdicts.{cleared_of, set_of};
-ghost use Rattle.scene_moments.specs.Moments.{came, came_alone, came_in, clears, clocks_due, ended, has_come, stepped, waited};
+ghost use Rattle.scene_moments.specs.Moments.{came, came_alone, came_in, clears, clocks_due, ended, has_come, menu_played, stepped, waited};
 
 use irq::{LINE, STEP, VrcIrq};
 use irq_clocks::clocks::clock_times;
@@ -62,6 +62,7 @@ fn clears(revision_b: bool, addr: u16) -> bool
 
 impl Moment {
     // Behind a step of the handler.
+    #[inline(always)]
     fn step(self, revision_b: bool, given: Step) -> Moment
         ensures { result ≡ stepped revision_b given self }
     {
@@ -80,6 +81,13 @@ impl Moment {
             (Moment::Pending(set, clock), Step::Reset) => Moment::Cleared(set, clock),
             _ => self,
         }
+    }
+
+    // Behind all steps.
+    fn play(self, revision_b: bool, steps: &[Step]) -> Moment
+        ensures { result ≡ menu_played revision_b steps.now self }
+    {
+        steps.iter().fold(self, |m, step| m.step(revision_b, *step))
     }
 
     // Whether the interrupt has come.
@@ -104,17 +112,29 @@ impl Moment {
     }
 }
 
-// When the interrupt comes if a handler of these steps runs at a clock that leaves the counter so.
+// When the interrupt comes if a handler of these steps runs at a clock that leaves the counter so. Most moments end before it, so
+// the loop carries nothing of what comes behind.
 pub fn came_after(irq: VrcIrq, clock: u32, revision_b: bool, steps: &[Step]) -> Came
     ensures { result ≡ came revision_b steps.now (Waiting irq clock) }
 {
-    steps
-        .iter()
-        .fold(
-            Moment::Waiting(irq, clock),
-            |m, step| m.step(revision_b, *step),
-        )
-        .end()
+    let mut q = irq;
+    let mut at = clock;
+    let mut rest = steps;
+    while let [step, behind @ ..] = rest {
+        match *step {
+            Step::Write(addr, val) => q = q.write_at(revision_b, addr, val),
+            Step::Reset => q = q.reset(),
+            Step::Clocks(n) => match wait(q, at, n) {
+                Moment::Waiting(next, clock) => {
+                    q = next;
+                    at = clock;
+                }
+                moment => return moment.play(revision_b, behind).end(),
+            },
+        }
+        rest = behind;
+    }
+    Moment::Waiting(q, at).end()
 }
 
 // The step of a handler in whose clocks the interrupt comes, if it comes in one of them.

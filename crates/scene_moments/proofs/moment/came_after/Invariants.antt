@@ -1,0 +1,11 @@
+-- `came_after` meets its contract. Assumes nothing.
+use Rattle.std.proofs.Common.{◌≡◌, length}
+use Rattle.scene_moments.specs.declared.moment.Moment.TheVariants.{Waiting}
+use Rattle.scene_moments.specs.Moments.{came}
+use Rattle.scene_moments.proofs.moment.came_after.Given as goal
+
+abbrev pub invariant-loop-rest : goal.invariant-loop-rest
+invariant-loop-rest l = came l.revision_b l.rest (Waiting l.q l.at) ≡ came l.revision_b l.steps (Waiting l.fn.irq l.fn.clock)
+
+abbrev pub decreases-loop-rest : goal.decreases-loop-rest
+decreases-loop-rest l = length l.rest
