@@ -114,6 +114,7 @@ impl Moment {
 
 // When the interrupt comes if a handler of these steps runs at a clock that leaves the counter so. Most moments end before it, so
 // the loop carries nothing of what comes behind.
+#[inline(always)]
 pub fn came_after(irq: VrcIrq, clock: u32, revision_b: bool, steps: &[Step]) -> Came
     ensures { result ≡ came revision_b steps.now (Waiting irq clock) }
 {
