@@ -7,7 +7,8 @@ use scene_board::{Ended, Scene as BoardScene};
 use scene_steps::Step;
 use scene_steps::picture::At;
 
-// The longest fixed buffer that a layout can ask. No step reads a byte of ROM, so its bytes are 0, whatever a file holds.
+// The longest fixed buffer that a layout can ask. No step reads a byte of ROM, so its bytes are 0, whatever a file holds. It is
+// a function, since a literal of this length gets no proof where a slice is taken of it.
 pub(crate) fn rom() -> [u8; 525312] {
     [0; 525312]
 }

@@ -1,4 +1,4 @@
--- `wholes::capped` meets its contract. Assumes nothing.
+-- `capped` meets its contract. Assumes nothing.
 use lib.Ieee.{of_bits, of_int, round}
 use Rattle.base_floats.proofs.capped.Goals as goal
 

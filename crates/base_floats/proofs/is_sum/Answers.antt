@@ -1,4 +1,4 @@
--- `wholes::is_sum` meets its contract. Assumes nothing.
+-- `is_sum` meets its contract. Assumes nothing.
 use Prim.Native.Nat.{ℕ, ◌≤◌, ◌%◌, ◌^◌}
 use native.Mathlib.Omega.{arith}
 use mathlib.Core.Path.{◌≡◌, refl, sym, subst}

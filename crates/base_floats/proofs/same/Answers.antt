@@ -1,4 +1,4 @@
--- `wholes::same` meets its contract. Assumes nothing.
+-- `same` meets its contract. Assumes nothing.
 use mathlib.Core.Bool.{false≢true}
 use borrow.Author.Rules.{rules}
 use borrow.Author.Tests.{eqb-true}
