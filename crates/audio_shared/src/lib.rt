@@ -1,5 +1,5 @@
-// What pulses and the saw have in common: the frequency. Functions over numbers, not a struct of both: C's layout has the step between these
-// fields. Not a trait: nothing takes a channel of either kind.
+// What pulses and the saw have in common: the frequency. Functions over numbers, since each channel holds its own, as in the Rust; not
+// a trait, since nothing here takes a channel of either kind.
 #![tactic(auto)]
 
 ghost use Rattle.std.specs.Prelude.{◌≡◌};

@@ -1,10 +1,11 @@
 -- Both buffers of a cartridge's layout, filled from its file (02, change 2; 01, Records). Assumes nothing.
-use Rattle.std.specs.Prelude.{Bool, List, [], ◌∷◌, ◌++◌, ℕ, length, replicate, take, drop}
+use Rattle.std.specs.Prelude.{Bool, List, [], ◌∷◌, ◌++◌, ℕ, length, map, replicate, take, drop}
+use Rattle.base_shared.specs.Numbers.{number}
 use Rattle.base_shared.specs.Refusals.{first_failing, unless}
 use Rattle.memory_layout.specs.Layout.{fixed_chr, lengths_fit}
 use Rattle.cartridge.specs.declared.cartridge.Cartridge.{Cartridge}
-use Rattle.cartridge.specs.Cartridges.{cartridge_of, fits}
-use Rattle.cartridge_header.specs.Ines.{is_ines, is_supported, stated_by}
+use Rattle.cartridge.specs.Cartridges.{cartridge_of}
+use Rattle.cartridge_header.specs.Ines.{header_checks, stated_by}
 
 -- the cartridge that a file states (02, change 2)
 abbrev pub cartridge_in : List ℕ → Cartridge
@@ -13,9 +14,7 @@ cartridge_in file = cartridge_of (stated_by file)
 -- 5, 6 and 7 of the header, then 2: buffers of these lengths are not the layout's (02, change 2; 01, The board's calls 3)
 abbrev pub fill_checks : (file : List ℕ) (fixed changing : ℕ) → List (Bool × ℕ)
 fill_checks file fixed changing =
-    (is_ines file, 5) ∷ (is_supported file, 6) ∷ (fits (stated_by file) (length file), 7)
-    ∷ (lengths_fit (cartridge_in file).layout fixed changing, 2)
-    ∷ []
+    map (λ t. (t.0, number t.1)) (header_checks file) ++ (lengths_fit (cartridge_in file).layout fixed changing, 2) ∷ []
 
 -- the first failing of them (02, change 2)
 abbrev pub fill_refusal : (file : List ℕ) (fixed changing : ℕ) → ℕ

@@ -159,7 +159,7 @@ impl VrcIrq {
         self.prescalar_counter <= LINE
     }
 
-    // The clocks until the counter sets pending; none if it isn't enabled.
+    // Document 01's forecast; none if and only if the counter isn't enabled.
     pub fn forecast(self) -> Option<u32>
         ensures { result ≡ forecast_answer self }
     {

@@ -75,7 +75,7 @@ impl MemoryLayout {
         }
     }
 
-    // Conditions 1 and 2, for buffers of these lengths.
+    // The first failing of conditions 1 and 2, for buffers of these lengths.
     pub fn check(self, fixed: usize, changing: usize) -> Result<LimitedLayout, Refusal>
         ensures number { number_of result ≡ first_failing (layout_checks self fixed changing) }
         ensures same { IfOk result (λ limited. limited.layout ≡ self) }

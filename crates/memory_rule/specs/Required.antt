@@ -31,8 +31,9 @@ pub record Closed (g : PageRing) : Type 0 where
   pub some : 1 ≤ g.count
   pub low : offset g.first + 1024 * g.count < 2 ^ 30
 
--- a window of so many pages, 16 at most, on a region of whole pages
+-- a window of so many pages, 16 at most, on a region that ends below 2 ^ 29, of whole pages if it is shorter than the window
 pub record Mapped (r : Region) (pages : ℕ) : Type 0 where
-  pub whole : Whole r
+  pub below : r.start + r.len ≤ 2 ^ 29
+  pub short : r.len < pages * 1024 → r.len % 1024 ≡ 0
   pub some : 1 ≤ pages
   pub most : pages ≤ 16

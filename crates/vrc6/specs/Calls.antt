@@ -103,11 +103,11 @@ was_reset b = with_engine b (engine_was_reset b.audio)
 abbrev pub reset : Board → Written
 reset b = let n = engine_refusal b in record { board = unless n (was_reset b) b; refusal = n }
 
--- the board as given, and the level under its name or the number (01, The board's calls 2; 01, The board's calls 3)
+-- the board as given, and the level under its name or the refusal (01, The board's calls 2; 01, The board's calls 3)
 abbrev pub level : Board → Leveled
 level b = record { board = b; level = engine_level b.irq b.audio }
 
--- the board as given, and the forecast or the number (01, The board's calls 2; 01, The board's calls 3)
+-- the board as given, and the forecast or the refusal (01, The board's calls 2; 01, The board's calls 3)
 abbrev pub forecast : Board → Forecasted
 forecast b = record { board = b; forecast = engine_forecast b.irq b.audio }
 

@@ -26,7 +26,8 @@ pub enum ResetKind {
     Hard,
 }
 
-// The answers. Each hands the next board back and gives the refusal as a number, 0 for none: so the board's description lays down.
+// The answers. Each hands the next board back and gives the refusal as a number, 0 for none, as document 01 has it; a level and a
+// forecast hold the refusal themselves.
 #[derive(Clone, Copy)]
 pub struct Created {
     pub board: Board,

@@ -30,7 +30,7 @@ pub enum Call {
     ReadForecast,
 }
 
-// What a call says beside the board: a byte, a tick, a level or a forecast, and the refusal's number. The bytes of a
+// What a call says beside the board: a byte, a tick, a level or a forecast, and the refusal, as the board's answers have it. The bytes of a
 // page view are lent back by the call itself.
 #[derive(Clone, Copy)]
 pub enum Answer {

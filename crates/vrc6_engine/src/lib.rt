@@ -10,7 +10,7 @@ use irq::VrcIrq;
 
 pub mod steady;
 
-// What a clock moves. A board holds both beside each other, as C lays it out.
+// What a clock moves: interrupt and sound.
 #[derive(Clone, Copy)]
 pub struct Engine {
     pub irq: VrcIrq,

@@ -14,7 +14,7 @@ fn first_page_is_zero(fixed: &[u8]) -> bool
     fixed[..1024].iter().all(|byte| *byte == 0)
 }
 
-// Conditions 1, 2 and 4.
+// The first failing of conditions 1, 2 and 4.
 pub fn check_creation(
     layout: MemoryLayout,
     fixed: &[u8],

@@ -21,10 +21,10 @@ returns-then-size-region c =
     let start = c.bank_base.ensures.0 ∙ ap (base r (n * 1024)) (to_z-of_z c.ranges.bank) in
     c.follow.ensures
     ∙ ap (λ (e : Page). tabulate n (pages_on e)) (c.new.ensures ∙ ap (λ (at : ℕ). entry (r.start + at) r.writable) start)
-    ∙ unwrapped r (n * 1024) c.args.bank c.requires.whole.below (omega arith) (λ z. omega arith) (omega arith) n (omega arith)
+    ∙ unwrapped r (n * 1024) c.args.bank c.requires.below (omega arith) (λ z. omega arith) (omega arith) n (omega arith)
 
 pub returns-else-size-region : goal.returns-else-size-region
 returns-else-size-region c =
     let r = c.args.region in
     let n = length c.args.window.now in
-    c.show.ensures ∙ ap (λ (g : PageRing). tabulate n (ring_page g)) c.of.ensures.0 ∙ around r c.requires.whole n c.args.bank (omega arith)
+    c.show.ensures ∙ ap (λ (g : PageRing). tabulate n (ring_page g)) c.of.ensures.0 ∙ around r (record { below = c.requires.below; pages = c.requires.short (omega arith) }) n c.args.bank (omega arith)
