@@ -33,7 +33,7 @@ pub fn is_sum(x: f32) -> bool
     (n <= 61) & (f32::to_bits(whole) == f32::to_bits(y))
 }
 
-// Yes only where x and y are one f32, with the same bits; no NaN is.
+// Yes only where x and y are one f32, with the same bits; no NaN is. Not `==`, for which -0.0 is 0.0.
 pub fn same(x: f32, y: f32) -> bool
     ensures { result ≡ true → x ≡ y }
 {

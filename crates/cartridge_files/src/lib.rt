@@ -30,7 +30,7 @@ fn fill<F: Read>(file: &mut F, bytes: &mut [u8]) -> Result<usize, Error>
 }
 
 // The file's bytes, as many as fit.
-pub fn read_full<'a, F: Read>(file: &mut F, bytes: &'a mut [u8]) -> Result<&'a [u8], Error>
+pub fn read_first<'a, F: Read>(file: &mut F, bytes: &'a mut [u8]) -> Result<&'a [u8], Error>
     ensures fits { IfOk result (λ read. length read.now ≤ length bytes.old) }
     ensures first { IfOk result (λ read. Consumes (F.remaining file.old) (F.remaining file.new) read.now) }
     ensures end { IfOk result (λ read. length read.now < length bytes.old → IsAtEnd (F.remaining file.new)) }
@@ -56,7 +56,7 @@ pub fn read_file<'a>(
     ensures { IfOk result (λ read. length read.now ≤ 524816) }
 {
     let mut file = open_read(rt, path)?;
-    read_full(&mut file, bytes)
+    read_first(&mut file, bytes)
 }
 
 // The text up to the bracket with a number that an error of the system ends with, as ` (os error 2)`.

@@ -138,7 +138,7 @@ pub fn page_at(b: Board, fixed: &[u8], changing: &[u8], addr: u16) -> PageAt
     }
 }
 
-// A board, and a clock's answer as one number.
+// A board, and a clock's answer as one number, which comes back in a register.
 #[derive(Clone, Copy)]
 pub struct Numbered {
     pub board: Board,

@@ -10,7 +10,7 @@ use std::marker::Model;
 // The bytes of the longest path.
 pub const LONGEST: usize = 4096;
 
-// One argument. A longer one than any path counts as empty.
+// One argument, in a buffer that the environment fills. A longer one than any path counts as empty.
 #[derive(Drop)]
 pub struct Argument {
     space: [u8; LONGEST],

@@ -63,7 +63,7 @@ pub enum Register {
     OfIrq(IrqRegister),
 }
 
-// Address lines 0 and 1, which revision B exchanges.
+// Address lines 0 and 1, which revision B exchanges. It is a flag, as a board holds it for C.
 fn lines(revision_b: bool, addr: u16) -> u16
     ensures { (result ≡ lines revision_b addr) × (result < 4) }
 {

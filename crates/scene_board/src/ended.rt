@@ -55,7 +55,7 @@ fn shown_on(layout: MemoryLayout, board: Board) -> Shown
 
 impl Scene<'_> {
     // No clock changes what slots show, so the menu plays right behind the writes. Of a board that is refused, the number says
-    // why; it refuses every call.
+    // why, as the board's answers have it; it refuses every call.
     pub fn play(self, changing: &mut [u8]) -> Result<Ended, u8>
         ensures value { result
             ≡ end_of self.entry.layout self.entry.settings self.entry.fixed.now changing.old self.entry.writes.now self.entry.menu.now }

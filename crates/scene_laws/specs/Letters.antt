@@ -46,7 +46,7 @@ pub record InStep (k : ℕ) (steps : List Step) (i t : ℕ) : Type 0 where
   pub behind : k + clock_count (calls_of (take i steps)) < t
   pub within : t ≤ k + clock_count (calls_of (take (suc i) steps))
 
--- of every accepted creation, every list of calls before, every handler and every k up to the interrupt: if `came_in` names a step of the
+-- of every accepted creation, every list of calls before, every handler that writes bytes and every k up to the interrupt: if `came_in` names a step of the
 -- handler, the clock that sets pending on the board lies in that step. So the calls before it are those of the steps before it, and clocks
 abbrev pub StepLaw : Type 0
 StepLaw =

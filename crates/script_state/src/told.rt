@@ -46,7 +46,7 @@ pub enum LevelName {
     Playing = 3,
 }
 
-// What the last call answered: its refusal's number, 0 for none, and what else it said.
+// What the last call answered: its refusal's number, 0 for none, as the board's answers have it, and what else it said.
 #[derive(Clone, Copy)]
 pub struct Told {
     pub refusal: u8,

@@ -12,7 +12,8 @@ use std::marker::Model;
 
 pub const ROOM: usize = 65536;
 
-// The bytes that wait in a buffer, and where they are written out.
+// The bytes that wait in a buffer, and where they are written out. The buffer lies in the value: a BufWriter takes memory, and so no
+// program could begin to print without an error to tell.
 #[derive(Drop)]
 pub struct Output {
     bytes: [u8; ROOM],
