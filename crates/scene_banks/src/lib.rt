@@ -12,7 +12,11 @@ fn bank_at(chr: Region, at: u32) -> Option<u32>
     ensures { result ≡ bank_at chr at }
 {
     let far = at.checked_sub(chr.start)?;
-    if far < chr.len { Some(far / 1024) } else { None }
+    if far < chr.len {
+        Some(far / 1024)
+    } else {
+        None
+    }
 }
 
 // The bank that an entry shows, if it shows one of CHR.
