@@ -21,8 +21,8 @@ abbrev pub line_names : List ℕ
 line_names = codes "R read W write P picture-read Q picture-write V view Z reset L level F forecast B read-bus C clock N S create G H D lend poke expect O open-bus ="
 
 -- what they stand for
-abbrev pub names : List Name
-names =
+abbrev pub lines_named : List Name
+lines_named =
     Name.Call CallName.Read ∷ Name.Call CallName.Read ∷ Name.Call CallName.Write ∷ Name.Call CallName.Write ∷
     Name.Call CallName.PictureRead ∷ Name.Call CallName.PictureRead ∷ Name.Call CallName.PictureWrite ∷
     Name.Call CallName.PictureWrite ∷ Name.Call CallName.View ∷ Name.Call CallName.View ∷ Name.Call CallName.Reset ∷
@@ -142,29 +142,29 @@ abbrev pub place_of : (name at : ℕ) → Place
 place_of name at = record { value = unwrap_or (slice_get values name) Value.Kept; at = at }
 
 -- a line of a known name
-abbrev pub line_of : Name → List ℕ → Line
-line_of (Name.Call call) args = Line.Call call (get_or args 0 0) (get_or args 1 0)
-line_of Name.Clock args = Line.Clock (get_or args 0 0)
-line_of Name.Filled args = Line.Create (creation_of args (Bytes.Filled (get_or args 7 0)))
-line_of Name.LayoutS args = Line.Create (layout_s (get_or args 0 0) (get_or args 1 0))
-line_of Name.Create args = Line.Create (creation_of args Bytes.Kept)
-line_of Name.Registers args = Line.Registers
-line_of Name.Buffers args = Line.Buffers
-line_of Name.Dump args = Line.Dump
-line_of Name.Lend args = Line.Lend (cond (eqb (get_or args 0 0) 0) Buffer.Fixed Buffer.Changing) (get_or args 1 0)
-line_of Name.Poke args = Line.Poke (place_of (get_or args 0 0) (get_or args 1 0)) (get_or args 2 0)
-line_of Name.Expect args = Line.Expect (place_of (get_or args 0 0) (get_or args 1 0)) (get_or args 2 0)
-line_of Name.OpenBus args = Line.OpenBus (eqb (get_or args 0 0) 1)
-line_of Name.Heading args = Line.Heading
+abbrev pub line_saying : Name → List ℕ → Line
+line_saying (Name.Call call) args = Line.Call call (get_or args 0 0) (get_or args 1 0)
+line_saying Name.Clock args = Line.Clock (get_or args 0 0)
+line_saying Name.Filled args = Line.Create (creation_of args (Bytes.Filled (get_or args 7 0)))
+line_saying Name.LayoutS args = Line.Create (layout_s (get_or args 0 0) (get_or args 1 0))
+line_saying Name.Create args = Line.Create (creation_of args Bytes.Kept)
+line_saying Name.Registers args = Line.Registers
+line_saying Name.Buffers args = Line.Buffers
+line_saying Name.Dump args = Line.Dump
+line_saying Name.Lend args = Line.Lend (cond (eqb (get_or args 0 0) 0) Buffer.Fixed Buffer.Changing) (get_or args 1 0)
+line_saying Name.Poke args = Line.Poke (place_of (get_or args 0 0) (get_or args 1 0)) (get_or args 2 0)
+line_saying Name.Expect args = Line.Expect (place_of (get_or args 0 0) (get_or args 1 0)) (get_or args 2 0)
+line_saying Name.OpenBus args = Line.OpenBus (eqb (get_or args 0 0) 1)
+line_saying Name.Heading args = Line.Heading
 
 -- a line of this name with its arguments, if nothing is wrong with them
 abbrev pub line_from : Name → Result (List ℕ) LineError → Result Line LineError
-line_from name (Ok args) = Ok (line_of name args)
+line_from name (Ok args) = Ok (line_saying name args)
 line_from name (Err e) = Err e
 
 -- what a line's name stands for, by its place
 abbrev pub name_at : (place : ℕ) → Name
-name_at place = unwrap_or (slice_get names place) Name.Heading
+name_at place = unwrap_or (slice_get lines_named place) Name.Heading
 
 -- a line by the place of its name
 abbrev pub line_named : Option ℕ → List (List ℕ) → Result Line LineError

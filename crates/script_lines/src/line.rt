@@ -2,7 +2,7 @@
 ghost use Rattle.std.specs.Prelude.{◌≡◌, ◌<◌, ◌^◌, length, slice_get, unwrap_or};
 ghost use Rattle.text_words.specs.Names.{words_of};
 ghost use Rattle.script_lines.specs.Readings.{name_after, read};
-ghost use Rattle.script_lines.specs.Lines.{argument_by, arguments_of, creation_of, is_comment, layout_s, letter_behind, letter_in, line_of, line_read, name_at, place_of};
+ghost use Rattle.script_lines.specs.Lines.{argument_by, arguments_of, creation_of, is_comment, layout_s, letter_behind, letter_in, line_saying, line_read, name_at, place_of};
 
 use crate::arguments::{name_after, number_after, value_after};
 use crate::error::LineError;
@@ -197,8 +197,8 @@ fn name_at(place: usize) -> Name
     entry(&NAMES, place, Name::Heading)
 }
 
-fn line_of(name: Name, arguments: [u32; 8]) -> Line
-    ensures { result ≡ line_of name arguments }
+fn line_saying(name: Name, arguments: [u32; 8]) -> Line
+    ensures { result ≡ line_saying name arguments }
 {
     let [a, b, c, _, _, _, _, seed] = arguments;
     match name {
@@ -243,5 +243,5 @@ pub fn parse(text: &[u8]) -> Result<Line, LineError>
     )
     .ok_or(LineError::UnknownLine)?;
     let arguments = arguments_of(&mut words, place)?;
-    Ok(line_of(name_at(place), arguments))
+    Ok(line_saying(name_at(place), arguments))
 }
