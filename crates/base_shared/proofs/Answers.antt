@@ -5,7 +5,7 @@ use mathlib.Core.Bool.{false}
 use Rattle.std.specs.Prelude.{Result, Ok, Err, ⊤, is_err}
 use Rattle.base_shared.specs.declared.Refusal.{Refusal}
 use Rattle.base_shared.specs.declared.Refusal.TheVariants.{Limits, Lengths, Range, FirstPage, NoHeader, Mapper, FileLength}
-use Rattle.base_shared.specs.Numbers.{number, number_of}
+use Rattle.base_shared.specs.Numbers.{number, answer_number}
 
 -- the refusal that has a number
 of_number : ℕ → Refusal
@@ -43,13 +43,13 @@ never_zero Mapper h = cc
 never_zero FileLength h = cc
 
 -- so the number says which answer it is, where the answer holds nothing else
-pub same_answer : (x y : Result ⊤ Refusal) → number_of x ≡ number_of y → x ≡ y
+pub same_answer : (x y : Result ⊤ Refusal) → answer_number x ≡ answer_number y → x ≡ y
 same_answer (Ok a) (Ok b) h = refl
 same_answer (Ok a) (Err s) h = absurd (never_zero s (sym h))
 same_answer (Err r) (Ok b) h = absurd (never_zero r h)
 same_answer (Err r) (Err s) h = ap Err (same_number r s h)
 
 -- an answer that is no refusal has the number 0
-pub accepted : {A : Type 0} (x : Result A Refusal) → is_err x ≡ false → number_of x ≡ 0
+pub accepted : {A : Type 0} (x : Result A Refusal) → is_err x ≡ false → answer_number x ≡ 0
 accepted (Ok a) h = refl
 accepted (Err r) h = cc

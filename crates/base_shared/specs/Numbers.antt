@@ -14,6 +14,6 @@ number Mapper = 6
 number FileLength = 7
 
 -- the number of an answer: that of its refusal, 0 where it has none (01, The board's calls 4)
-abbrev pub number_of : {A : Type 0} → Result A Refusal → ℕ
-number_of (Ok x) = 0
-number_of (Err refusal) = number refusal
+abbrev pub answer_number : {A : Type 0} → Result A Refusal → ℕ
+answer_number (Ok x) = 0
+answer_number (Err refusal) = number refusal

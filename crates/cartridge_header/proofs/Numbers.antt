@@ -10,7 +10,7 @@ use lib.ListN.{length}
 use Rattle.base_shared.specs.Refusals.{first_failing}
 use Rattle.base_shared.specs.declared.Refusal.{Refusal}
 use Rattle.base_shared.specs.declared.Refusal.TheVariants.{NoHeader, Mapper, FileLength}
-use Rattle.base_shared.specs.Numbers.{number, number_of}
+use Rattle.base_shared.specs.Numbers.{number, answer_number}
 use Rattle.std.specs.Prelude.{Result, Ok, Err}
 use Rattle.base_shared.specs.Numbered.{Numbered}
 use Rattle.base_shared.proofs.Numbers.{numbered_law}
@@ -29,7 +29,7 @@ abbrev by_tests : (a b z : Bool) → Cartridge → Result Cartridge Refusal
 by_tests a b z k = cond a (cond b (cond z (Ok k) (Err FileLength)) (Err Mapper)) (Err NoHeader)
 
 module _ (k : Cartridge) where
-  told : (a b z : Bool) → number_of (by_tests a b z k) ≡ first_number a b z
+  told : (a b z : Bool) → answer_number (by_tests a b z k) ≡ first_number a b z
   told true true true = refl
   told true true false = refl
   told true false z = refl

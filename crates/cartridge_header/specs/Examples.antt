@@ -5,7 +5,7 @@ use Rattle.vrc6_slots.specs.declared.Mirroring.TheVariants.{Vertical, Horizontal
 use Rattle.vrc6_banking.specs.declared.banking.Revision.{Revision}
 use Rattle.vrc6_banking.specs.declared.banking.Revision.TheVariants.{A, B}
 use Rattle.cartridge.specs.declared.cartridge.Cartridge.{Cartridge}
-use Rattle.base_shared.specs.Numbers.{number_of}
+use Rattle.base_shared.specs.Numbers.{answer_number}
 use Rattle.cartridge.specs.Cartridges.{cartridge_of, fits}
 use Rattle.cartridge_header.specs.Ines.{read_header, stated_by}
 
@@ -34,18 +34,18 @@ pub record HeaderExamples : Type 0 where
   pub vertical : read_header (file 0 0 0x81 0x10 0) ≡ Ok (made 0 8_192 true 2_048 Vertical A 16 16)
   -- mapper $1A, a trainer, four screens beside bit 0, no CHR: only the trainer's bytes are asked for
   pub all_bits : read_header (file 0 0 0xAD 0x10 512) ≡ Ok (made 0 8_192 true 4_096 FourScreen B 528 528)
-  pub no_trainer : number_of (read_header (file 0 0 0xAD 0x10 511)) ≡ 7
+  pub no_trainer : answer_number (read_header (file 0 0 0xAD 0x10 511)) ≡ 7
   -- byte 7 bits 3 and 2: 0 and 1, and 1 and 1, are no error; 1 and 0 are
   pub older_1 : read_header (file 0 0 0x80 0x14 0) ≡ Ok (made 0 8_192 true 2_048 Horizontal A 16 16)
   pub older_3 : read_header (file 0 0 0x80 0x1C 0) ≡ Ok (made 0 8_192 true 2_048 Horizontal A 16 16)
-  pub newer : number_of (read_header (file 0 0 0x80 0x18 0)) ≡ 6
+  pub newer : answer_number (read_header (file 0 0 0x80 0x18 0)) ≡ 6
   -- mapper $81
-  pub exchanged : number_of (read_header (file 0 0 0x10 0x80 0)) ≡ 6
+  pub exchanged : answer_number (read_header (file 0 0 0x10 0x80 0)) ≡ 6
   -- the most units of both, then 17 of PRG and 33 of CHR in a file of 600,000 bytes; 6 stands before 7
   pub full : fits (stated_by (file 16 32 0x80 0x10 0)) 524_304 ≡ true
   pub over_prg : fits (stated_by (file 17 0 0x80 0x10 0)) 600_000 ≡ false
   pub over_chr : fits (stated_by (file 0 33 0x80 0x10 0)) 600_000 ≡ false
-  pub six_first : number_of (read_header (file 17 0 0 0x10 0)) ≡ 6
+  pub six_first : answer_number (read_header (file 17 0 0 0x10 0)) ≡ 6
   -- 15 bytes; another first byte, beside another mapper
-  pub cut : number_of (read_header (take 15 (file 0 0 0x80 0x10 0))) ≡ 5
-  pub other_first : number_of (read_header (0x4D ∷ drop 1 (file 0 0 0 0 0))) ≡ 5
+  pub cut : answer_number (read_header (take 15 (file 0 0 0x80 0x10 0))) ≡ 5
+  pub other_first : answer_number (read_header (0x4D ∷ drop 1 (file 0 0 0 0 0))) ≡ 5

@@ -3,7 +3,7 @@ use Rattle.std.specs.Prelude.{◌≡◌, Ok, Err, true, cond, List, [], ◌∷�
 use Rattle.memory_layout.specs.Layout.{within_limits}
 use Rattle.cartridge.specs.declared.cartridge.Cartridge.{Cartridge}
 use Rattle.base_shared.specs.declared.Refusal.{Refusal}
-use Rattle.base_shared.specs.Numbers.{number, number_of}
+use Rattle.base_shared.specs.Numbers.{number, answer_number}
 use Rattle.cartridge.specs.Cartridges.{cartridge_of}
 use Rattle.cartridge_header.specs.Ines.{file_byte, mapper_number, stated_by, read_header}
 
@@ -26,9 +26,9 @@ Fitting file = (file_byte file 4 ≤ 16) × (file_byte file 5 ≤ 32) × (needed
 
 -- each number is answered where its condition fails and those before it hold, and only there; there is no other number (02, change 2)
 pub record HeaderNumbers (file : List ℕ) : Type 0 where
-  pub five : (number_of (read_header file) ≡ 5) ↔ (Headed file → ⊥)
-  pub six : (number_of (read_header file) ≡ 6) ↔ (Headed file × (Supported file → ⊥))
-  pub seven : (number_of (read_header file) ≡ 7) ↔ (Headed file × (Supported file × (Fitting file → ⊥)))
+  pub five : (answer_number (read_header file) ≡ 5) ↔ (Headed file → ⊥)
+  pub six : (answer_number (read_header file) ≡ 6) ↔ (Headed file × (Supported file → ⊥))
+  pub seven : (answer_number (read_header file) ≡ 7) ↔ (Headed file × (Supported file × (Fitting file → ⊥)))
   pub accepted : (read_header file ≡ Ok (cartridge_of (stated_by file))) ↔ (Headed file × (Supported file × Fitting file))
   pub no_other : (r : Refusal) → read_header file ≡ Err r → (number r ≡ 5) ⊎ (number r ≡ 6) ⊎ (number r ≡ 7)
 

@@ -4,7 +4,7 @@ ghost use Rattle.cartridge_header.specs.Ines.{read_header};
 ghost use Rattle.host_cartridge.specs.Encoded.{header_encoded};
 ghost use Rattle.host_cartridge.specs.Filled.{changing_filled, fill_refusal, fixed_filled};
 
-use base_shared::number_of;
+use base_shared::answer_number;
 use host_cartridge::{EncodedCartridge, encode_header, fill_from_file};
 
 pub fn vrc6_read_header(file: &[u8]) -> EncodedCartridge
@@ -19,5 +19,5 @@ pub fn vrc6_fill(file: &[u8], fixed: &mut [u8], changing: &mut [u8]) -> u8
     ensures fixed_after { fixed.new ≡ fixed_filled file.now fixed.old changing.old }
     ensures changing_after { changing.new ≡ changing_filled file.now fixed.old changing.old }
 {
-    number_of(fill_from_file(file, fixed, changing))
+    answer_number(fill_from_file(file, fixed, changing))
 }

@@ -1,6 +1,6 @@
 // Both buffers of a cartridge's layout, filled from its file.
 ghost use Rattle.std.specs.Prelude.{◌≡◌, length};
-ghost use Rattle.base_shared.specs.Numbers.{number_of};
+ghost use Rattle.base_shared.specs.Numbers.{answer_number};
 ghost use Rattle.host_cartridge.specs.Filled.{changing_filled, fill_refusal, fixed_filled};
 
 use base_shared::Refusal;
@@ -8,7 +8,7 @@ use cartridge_header::read_header;
 
 // Refused by 5, 6 or 7 as the header is, then by 2 if a buffer has another length than the layout's.
 pub fn fill_from_file(file: &[u8], fixed: &mut [u8], changing: &mut [u8]) -> Result<(), Refusal>
-    ensures value { number_of result ≡ fill_refusal file.now (length fixed.old) (length changing.old) }
+    ensures value { answer_number result ≡ fill_refusal file.now (length fixed.old) (length changing.old) }
     ensures fixed_after { fixed.new ≡ fixed_filled file.now fixed.old changing.old }
     ensures changing_after { changing.new ≡ changing_filled file.now fixed.old changing.old }
 {

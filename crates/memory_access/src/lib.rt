@@ -5,7 +5,7 @@
 #![tactic(auto)]
 
 ghost use Rattle.std.specs.Prelude.{◌≡◌, ◌++◌, ◌+◌, ◌≤◌, ◌<◌, get_or, length};
-ghost use Rattle.base_shared.specs.Numbers.{number_of};
+ghost use Rattle.base_shared.specs.Numbers.{answer_number};
 ghost use Rattle.memory_pages.specs.Pages.{offset};
 ghost use Rattle.memory_access.specs.Access.{access_refusal, answered, byte_at, peeked, plain_refusal, stored, viewed, written};
 ghost use Rattle.memory_access.specs.Required.{Placed};
@@ -22,7 +22,7 @@ pub fn check_access(
     changing: usize,
     others: bool,
 ) -> Result<(), Refusal>
-    ensures { number_of result ≡ access_refusal layout page fixed changing others }
+    ensures { answer_number result ≡ access_refusal layout page fixed changing others }
 {
     let limited = layout.check(fixed, changing)?;
     if others & limited.entry_in_range(page) {
@@ -108,7 +108,7 @@ pub fn write(
     addr: u16,
     val: u8,
 ) -> Result<(), Refusal>
-    ensures value { number_of result ≡ plain_refusal layout page fixed.now changing.old }
+    ensures value { answer_number result ≡ plain_refusal layout page fixed.now changing.old }
     ensures changing_after { changing.new ≡ written layout page fixed.now changing.old addr val }
 {
     check_access(layout, page, fixed.len(), changing.len(), true)?;

@@ -1,6 +1,6 @@
 // The layout: how long each region is, which buffer it lies in and where it starts.
 ghost use Rattle.std.specs.Prelude.{◌≡◌, ◌≤◌, IfOk, IfSome, IsSome, IsTrue, ◌↔◌};
-ghost use Rattle.base_shared.specs.Numbers.{number_of};
+ghost use Rattle.base_shared.specs.Numbers.{answer_number};
 ghost use Rattle.base_shared.specs.Refusals.{first_failing};
 ghost use Rattle.memory_layout.specs.Entries.{entry_in_range};
 ghost use Rattle.memory_layout.specs.Required.{Limits};
@@ -77,7 +77,7 @@ impl MemoryLayout {
 
     // The first failing of conditions 1 and 2, for buffers of these lengths.
     pub fn check(self, fixed: usize, changing: usize) -> Result<LimitedLayout, Refusal>
-        ensures number { number_of result ≡ first_failing (layout_checks self fixed changing) }
+        ensures number { answer_number result ≡ first_failing (layout_checks self fixed changing) }
         ensures same { IfOk result (λ limited. limited.layout ≡ self) }
     {
         let limited = self.limited().ok_or(Refusal::Limits)?;

@@ -7,7 +7,7 @@ ghost use Rattle.vrc6.specs.Boards.{entry_of, held_by};
 ghost use Rattle.vrc6.specs.Calls.{byte_read, page_view, page_view_refusal};
 
 use crate::board::{Board, ByteRead};
-use base_shared::{Refusal, number_of};
+use base_shared::{Refusal, answer_number};
 use memory_access::{Peeked, check_access, view};
 use memory_pages::Page;
 use memory_tables::entry_for;
@@ -70,6 +70,6 @@ impl Board {
     {
         let page = self.picture_page(addr);
         let answer = check_access(self.layout, page, fixed.len(), changing.len(), true);
-        number_of(answer)
+        answer_number(answer)
     }
 }

@@ -8,7 +8,7 @@ ghost use Rattle.vrc6.specs.Calls.{cpu_write, cpu_write_left, picture_write, pic
 ghost use Rattle.vrc6.specs.Reaches.{Reaches};
 
 use crate::board::{Board, Written};
-use base_shared::number_of;
+use base_shared::answer_number;
 use memory_access::write;
 use registers::{BankRegister, Register, decode};
 use vrc6_parts::writes::{Part, reached, write_byte};
@@ -104,7 +104,7 @@ impl Board {
         let page = self.picture_page(addr);
         Written {
             board: self,
-            refusal: number_of(write(self.layout, page, fixed, changing, addr, val)),
+            refusal: answer_number(write(self.layout, page, fixed, changing, addr, val)),
         }
     }
 }

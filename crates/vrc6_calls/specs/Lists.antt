@@ -12,7 +12,7 @@ use Rattle.vrc6.specs.declared.board.Clocked.{Clocked}
 use Rattle.vrc6.specs.declared.board.Leveled.{Leveled}
 use Rattle.vrc6.specs.declared.board.Forecasted.{Forecasted}
 use Rattle.base_shared.specs.declared.Refusal.{Refusal}
-use Rattle.base_shared.specs.Numbers.{number_of}
+use Rattle.base_shared.specs.Numbers.{answer_number}
 use Rattle.vrc6_calls.specs.declared.Call.{Call}
 use Rattle.vrc6_calls.specs.declared.Call.TheVariants.{CpuRead, CpuWrite, LentCpuWrite, PictureRead, PictureWrite, Clock, LentClock, SoftReset, HardReset, ReadLevel, PageView, ReadForecast}
 use Rattle.vrc6_calls.specs.declared.Answer.{Answer}
@@ -94,7 +94,7 @@ changing_after x k = changing_by x (shape k)
 -- ---- what an answer says
 -- the refusal number of a forecast (01, The form to use in each place 12)
 abbrev pub forecast_refusal : Result (Option ℕ) Refusal → ℕ
-forecast_refusal answer = number_of answer
+forecast_refusal answer = answer_number answer
 
 -- the forecast that an answer returns: None is one, a refusal is none (01, The form to use in each place 12)
 abbrev pub forecast_part : Result (Option ℕ) Refusal → List (Option ℕ)

@@ -1,6 +1,6 @@
 // What create checks.
 ghost use Rattle.std.specs.Prelude.{◌≡◌, ◌≤◌, IfOk, length, take};
-ghost use Rattle.base_shared.specs.Numbers.{number_of};
+ghost use Rattle.base_shared.specs.Numbers.{answer_number};
 ghost use Rattle.vrc6_parts.specs.Checks.{all_zero, creation_refusal};
 
 use base_shared::Refusal;
@@ -20,7 +20,7 @@ pub fn check_creation(
     fixed: &[u8],
     changing: &[u8],
 ) -> Result<LimitedLayout, Refusal>
-    ensures number { number_of result ≡ creation_refusal layout fixed.now changing.now }
+    ensures number { answer_number result ≡ creation_refusal layout fixed.now changing.now }
     ensures same { IfOk result (λ limited. limited.layout ≡ layout) }
 {
     let limited = layout.check(fixed.len(), changing.len())?;

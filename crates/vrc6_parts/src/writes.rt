@@ -1,6 +1,6 @@
 // What a CPU write does before its register takes the byte: the check, the byte, and which part of the board is reached.
 ghost use Rattle.std.specs.Prelude.{◌≡◌, length};
-ghost use Rattle.base_shared.specs.Numbers.{number_of};
+ghost use Rattle.base_shared.specs.Numbers.{answer_number};
 ghost use Rattle.memory_access.specs.Access.{access_refusal};
 ghost use Rattle.registers.specs.Decode.{decode};
 ghost use Rattle.vrc6_parts.specs.Checks.{values_in_range};
@@ -41,7 +41,7 @@ pub fn write_byte(
     addr: u16,
     val: u8,
 ) -> Result<(), Refusal>
-    ensures value { number_of result ≡ access_refusal layout page (length fixed.now) (length changing.old) (values_in_range banking engine.irq engine.audio addr) }
+    ensures value { answer_number result ≡ access_refusal layout page (length fixed.now) (length changing.old) (values_in_range banking engine.irq engine.audio addr) }
     ensures changing_after { changing.new ≡ byte_left layout page (values_in_range banking engine.irq engine.audio addr) fixed.now changing.old addr val }
 {
     let others = values_in_range(banking, engine, addr);
