@@ -123,7 +123,7 @@ pub fn page_at(b: Board, fixed: &[u8], changing: &[u8], addr: u16) -> PageAt
             refusal,
         };
     }
-    let offset = entry_for(b.chr_pages, addr).offset();
+    let offset = entry_for(&b.chr_pages, addr).offset();
     match (offset as usize).checked_sub(fixed.len()) {
         None => PageAt {
             offset,

@@ -1,6 +1,6 @@
 -- What is known of an access that is not refused. Assumes nothing.
 use mathlib.Core.Path.{◌≡◌, refl, sym, ◌∙◌}
-use mathlib.Core.Bool.{Bool, true, false, ◌&&◌, false≢true}
+use mathlib.Core.Bool.{Bool, true, false, cond, ◌&&◌, false≢true}
 use mathlib.Core.List.{List, [], ◌∷◌, ◌++◌}
 use mathlib.Core.Logic.{◌⊎◌, ⊎_elim}
 use Prim.Native.Nat.{ℕ, ◌+◌, ◌≤◌, ◌<◌}
@@ -14,7 +14,7 @@ use Rattle.base_shared.proofs.Numbers.{none_fails}
 use Rattle.memory_pages.specs.declared.page.Page.{Page}
 use Rattle.memory_pages.specs.Pages.{offset, writable}
 use Rattle.memory_layout.specs.declared.regions.MemoryLayout.{MemoryLayout}
-use Rattle.memory_layout.specs.Layout.{fixed_length, changing_length, layout_checks}
+use Rattle.memory_layout.specs.Layout.{fixed_length, changing_length, layout_checks, lengths_fit, within_limits}
 use Rattle.memory_layout.specs.Entries.{entry_in_range}
 use Rattle.memory_layout.specs.Required.{Limits}
 use Rattle.memory_layout.proofs.Limited.{limits, placed_in}
@@ -60,3 +60,31 @@ placed l e fixed changing others none =
       behind = behind l e fixed (length changing) others none;
       within = λ _. inside l e fixed (length changing) others none;
     }
+
+-- ---- other values of a call, tested behind its entry
+abbrev told : (limits lengths entry : Bool) → ℕ
+told limits lengths entry = cond limits (cond lengths (cond entry 0 3) 2) 1
+
+module _ (l : MemoryLayout) (e : Page) (fixed changing : ℕ) (others : Bool) where
+  -- a call that is refused already is refused by the same number
+  pub refused_first : (access_refusal l e fixed changing true ≡ 0 → ⊥)
+      → access_refusal l e fixed changing others ≡ access_refusal l e fixed changing true
+  refused_first h = go (within_limits l) (lengths_fit l fixed changing) (entry_in_range l e) others h
+    where
+      go : (a b c d : Bool) → (told a b c ≡ 0 → ⊥) → told a b (d && c) ≡ told a b c
+      go true true true d h = absurd (h refl)
+      go true true false true h = refl
+      go true true false false h = refl
+      go true false c d h = refl
+      go false b c d h = refl
+
+  -- and otherwise they decide
+  pub values_decide : access_refusal l e fixed changing true ≡ 0 → access_refusal l e fixed changing others ≡ cond others 0 3
+  values_decide h = go (within_limits l) (lengths_fit l fixed changing) (entry_in_range l e) others h
+    where
+      go : (a b c d : Bool) → told a b c ≡ 0 → told a b (d && c) ≡ cond d 0 3
+      go true true true true h = refl
+      go true true true false h = refl
+      go true true false d h = cc
+      go true false c d h = cc
+      go false b c d h = cc

@@ -1,36 +1,20 @@
 // One access to the two lent buffers through an entry: check, byte, store and view (tetanes-core's memory.rs, `prg_peek`,
-// `prg_write`, `chr_peek`, `chr_write`). The functions take the parts of a board that they need, layout, entry and
-// buffers; `byte_shown` and `store` check nothing. Both buffers are parameters of their own: C lends them so, and a read borrows
-// both while a write changes one.
+// `prg_write`, `chr_peek`, `chr_write`). An access has the parts of a board that it needs, layout and entry; `byte_shown` and `store`
+// check nothing. Both buffers are parameters of their own: C lends them so, and a read borrows both while a write changes one.
 #![tactic(auto)]
 
-ghost use Rattle.std.specs.Prelude.{◌≡◌, ◌++◌, ◌+◌, ◌≤◌, ◌<◌, get_or, length};
+pub mod free;
+
+ghost use Rattle.std.specs.Prelude.{◌≡◌, ◌++◌, ◌+◌, ◌≤◌, ◌<◌, IfOk, get_or, length, true};
 ghost use Rattle.base_shared.specs.Numbers.{answer_number};
 ghost use Rattle.memory_pages.specs.Pages.{offset};
 ghost use Rattle.memory_access.specs.Access.{access_refusal, answered, byte_at, peeked, plain_refusal, stored, viewed, written};
 ghost use Rattle.memory_access.specs.Required.{Placed};
 
 use base_shared::Refusal;
+pub use free::{check_access, peek, view, write};
 use memory_layout::MemoryLayout;
 use memory_pages::Page;
-
-// What a call through page checks; others says whether what else it checks is in range.
-pub fn check_access(
-    layout: MemoryLayout,
-    page: Page,
-    fixed: usize,
-    changing: usize,
-    others: bool,
-) -> Result<(), Refusal>
-    ensures { answer_number result ≡ access_refusal layout page fixed changing others }
-{
-    let limited = layout.check(fixed, changing)?;
-    if others & limited.entry_in_range(page) {
-        Ok(())
-    } else {
-        Err(Refusal::Range)
-    }
-}
 
 // The byte at a place counted from the fixed buffer on into the changing one.
 fn byte_at(fixed: &[u8], changing: &[u8], at: usize) -> u8
@@ -74,20 +58,6 @@ impl From<Result<u8, Refusal>> for Peeked {
     }
 }
 
-// The byte that addr shows through page.
-pub fn peek(
-    layout: MemoryLayout,
-    page: Page,
-    fixed: &[u8],
-    changing: &[u8],
-    addr: u16,
-) -> Result<u8, Refusal>
-    ensures { answered result ≡ peeked layout page fixed.now changing.now addr }
-{
-    check_access(layout, page, fixed.len(), changing.len(), true)?;
-    Ok(byte_shown(page, fixed, changing, addr))
-}
-
 // Stores a byte through an entry that is checked already; fixed is the fixed buffer's length.
 pub fn store(page: Page, fixed: usize, changing: &mut [u8], addr: u16, val: u8)
     requires { Placed fixed page changing.old }
@@ -99,33 +69,54 @@ pub fn store(page: Page, fixed: usize, changing: &mut [u8], addr: u16, val: u8)
     }
 }
 
-// Writes a byte to addr through page.
-pub fn write(
-    layout: MemoryLayout,
-    page: Page,
-    fixed: &[u8],
-    changing: &mut [u8],
-    addr: u16,
-    val: u8,
-) -> Result<(), Refusal>
-    ensures value { answer_number result ≡ plain_refusal layout page fixed.now changing.old }
-    ensures changing_after { changing.new ≡ written layout page fixed.now changing.old addr val }
-{
-    check_access(layout, page, fixed.len(), changing.len(), true)?;
-    store(page, fixed.len(), changing, addr, val);
-    Ok(())
+// A page of a board, and the layout whose buffers it lies in.
+#[derive(Clone, Copy, Debug, PartialEq, Eq)]
+pub struct Access {
+    pub layout: MemoryLayout,
+    pub page: Page,
 }
 
-// Lends back the 1,024 bytes of page, from whichever buffer it points into; none where it is refused.
-pub fn view<'a>(layout: MemoryLayout, page: Page, fixed: &'a [u8], changing: &'a [u8]) -> &'a [u8]
-    ensures { result.now ≡ viewed layout page fixed.now changing.now }
-{
-    if check_access(layout, page, fixed.len(), changing.len(), true).is_err() {
-        return &fixed[..0];
+impl Access {
+    // What a call through the page checks, for buffers of these lengths.
+    pub fn check(self, fixed: usize, changing: usize) -> Result<(), Refusal>
+        ensures { answer_number result ≡ access_refusal self.layout self.page fixed changing true }
+    {
+        let limited = self.layout.check(fixed, changing)?;
+        if limited.entry_in_range(self.page) {
+            Ok(())
+        } else {
+            Err(Refusal::Range)
+        }
     }
-    let at = page.offset() as usize;
-    match at.checked_sub(fixed.len()) {
-        None => &fixed[at..at + 1024],
-        Some(from) => &changing[from..from + 1024],
+
+    // The byte that addr shows through the page.
+    pub fn peek(self, fixed: &[u8], changing: &[u8], addr: u16) -> Result<u8, Refusal>
+        ensures { answered result ≡ peeked self.layout self.page fixed.now changing.now addr }
+    {
+        self.check(fixed.len(), changing.len())?;
+        Ok(byte_shown(self.page, fixed, changing, addr))
+    }
+
+    // Writes a byte to addr through the page.
+    pub fn write(self, fixed: &[u8], changing: &mut [u8], addr: u16, val: u8) -> Result<(), Refusal>
+        ensures value { answer_number result ≡ plain_refusal self.layout self.page fixed.now changing.old }
+        ensures changing_after { changing.new ≡ written self.layout self.page fixed.now changing.old addr val }
+    {
+        self.check(fixed.len(), changing.len())?;
+        store(self.page, fixed.len(), changing, addr, val);
+        Ok(())
+    }
+
+    // Lends back the page's 1,024 bytes, from whichever buffer it points into.
+    pub fn view<'a>(self, fixed: &'a [u8], changing: &'a [u8]) -> Result<&'a [u8], Refusal>
+        ensures number { answer_number result ≡ plain_refusal self.layout self.page fixed.now changing.now }
+        ensures bytes { IfOk result (λ lent. lent.now ≡ viewed self.layout self.page fixed.now changing.now) }
+    {
+        self.check(fixed.len(), changing.len())?;
+        let at = self.page.offset() as usize;
+        match at.checked_sub(fixed.len()) {
+            None => Ok(&fixed[at..at + 1024]),
+            Some(from) => Ok(&changing[from..from + 1024]),
+        }
     }
 }

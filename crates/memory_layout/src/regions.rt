@@ -1,5 +1,5 @@
 // The layout: how long each region is, which buffer it lies in and where it starts.
-ghost use Rattle.std.specs.Prelude.{◌≡◌, ◌≤◌, IfOk, IfSome, IsSome, IsTrue, ◌↔◌};
+ghost use Rattle.std.specs.Prelude.{◌≡◌, ◌≤◌, cond, IfOk, IfSome, IsSome, IsTrue, ◌↔◌};
 ghost use Rattle.base_shared.specs.Numbers.{answer_number};
 ghost use Rattle.base_shared.specs.Refusals.{first_failing};
 ghost use Rattle.memory_layout.specs.Entries.{entry_in_range};
@@ -11,7 +11,7 @@ use memory_pages::Page;
 
 // Byte lengths as the cartridge states them.
 #[repr(C)]
-#[derive(Clone, Copy, Debug, PartialEq, Eq)]
+#[derive(Clone, Copy, Debug, Default, PartialEq, Eq)]
 pub struct MemoryLayout {
     pub prg_rom: u32,
     pub chr: u32,
@@ -99,38 +99,29 @@ impl LimitedLayout {
         }
     }
 
-    // What CHR takes of the fixed buffer.
-    fn fixed_chr(self) -> u32
-        ensures { (result ≡ fixed_chr self.layout) × (result ≤ 262144) }
+    // What CHR takes of the changing buffer, or of the fixed one: it lies where its mark says.
+    fn chr_in(self, changing: bool) -> u32
+        ensures { (result ≡ cond changing (changing_chr self.layout) (fixed_chr self.layout)) × (result ≤ 262144) }
     {
-        if self.layout.chr_writable {
-            return 0;
+        if self.layout.chr_writable == changing {
+            whole_pages(self.layout.chr)
+        } else {
+            0
         }
-        whole_pages(self.layout.chr)
-    }
-
-    // What CHR takes of the changing buffer.
-    fn changing_chr(self) -> u32
-        ensures { (result ≡ changing_chr self.layout) × (result ≤ 262144) }
-    {
-        if self.layout.chr_writable {
-            return whole_pages(self.layout.chr);
-        }
-        0
     }
 
     // The length of the fixed buffer.
     pub fn fixed_length(self) -> u32
         ensures { (result ≡ fixed_length self.layout) × (result ≤ 525312) }
     {
-        1024 + whole_pages(self.layout.prg_rom) + self.fixed_chr()
+        1024 + whole_pages(self.layout.prg_rom) + self.chr_in(false)
     }
 
     // The length of the changing buffer.
     pub fn changing_length(self) -> u32
         ensures { (result ≡ changing_length self.layout) × (result ≤ 274432) }
     {
-        whole_pages(self.layout.prg_ram) + self.changing_chr() + whole_pages(self.ciram_bytes())
+        whole_pages(self.layout.prg_ram) + self.chr_in(true) + whole_pages(self.ciram_bytes())
     }
 
     // Whether buffers of these lengths are the layout's.
@@ -156,7 +147,7 @@ impl LimitedLayout {
             },
             Src::Chr => self.chr_region(),
             Src::CiRam => Region {
-                start: self.fixed_length() + whole_pages(self.layout.prg_ram) + self.changing_chr(),
+                start: self.fixed_length() + whole_pages(self.layout.prg_ram) + self.chr_in(true),
                 len: whole_pages(self.ciram_bytes()),
                 writable: true,
             },

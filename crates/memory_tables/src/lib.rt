@@ -12,9 +12,9 @@ ghost use Rattle.memory_tables.specs.Paging.{entry_among};
 use memory_pages::Page;
 
 // The entry that serves an address, in a table of N entries: the CPU's of 64 or the picture side's of 16.
-pub fn entry_for<const N: usize>(pages: [Page; N], addr: u16) -> Page
+pub fn entry_for<const N: usize>(pages: &[Page; N], addr: u16) -> Page
     requires { 0 < N }
-    ensures { result ≡ entry_among N pages.entry addr }
+    ensures { result ≡ entry_among N pages.now addr }
 {
     pages[(addr / 1024) as usize % N]
 }

@@ -18,14 +18,14 @@ impl Board {
     pub(crate) fn cpu_page(self, addr: u16) -> Page
         ensures { result ≡ entry_of cpu self addr }
     {
-        entry_for(self.prg_pages, addr)
+        entry_for(&self.prg_pages, addr)
     }
 
     // The entry that serves a picture address.
     pub(crate) fn picture_page(self, addr: u16) -> Page
         ensures { result ≡ entry_of picture self addr }
     {
-        entry_for(self.chr_pages, addr)
+        entry_for(&self.chr_pages, addr)
     }
 
     // bus is the byte that the bus last held: with the setting on, a read where nothing is there hands it back.

@@ -8,7 +8,7 @@ use Rattle.base_shared.proofs.Answers.{accepted}
 use Rattle.memory_pages.specs.Pages.{offset}
 use Rattle.memory_access.proofs.Accepted.{whole}
 use Rattle.memory_access.proofs.Buffers.{first_part, second_part}
-use Rattle.memory_access.proofs.view.Goals as goal
+use Rattle.memory_access.proofs.free.view.Goals as goal
 
 pub returns-in-None : goal.returns-in-None
 returns-in-None c =
