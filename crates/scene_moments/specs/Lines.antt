@@ -1,8 +1,8 @@
 -- The screen line of a clock, and how far it is from another line (docs/SCENES.md). Assumes nothing.
-use Rattle.std.specs.Prelude.{ℕ, ◌+◌, ◌-◌, ◌*◌, ◌/◌, ◌%◌, cond, ◌==◌}
+use Rattle.std.specs.Prelude.{ℕ, Option, Some, None, ◌+◌, ◌-◌, ◌*◌, ◌/◌, ◌%◌, cond, ◌==◌}
 use Rattle.irq.specs.Timing.{line_step, line_length}
 use Rattle.scene_steps.specs.declared.picture.At.{At}
-use Rattle.scene_steps.specs.declared.picture.At.TheVariants.{Unsaid, Line, Dot}
+use Rattle.scene_steps.specs.declared.picture.At.TheVariants.{Line, Dot}
 use Rattle.scene_moments.specs.declared.lines.Screen.{Screen}
 
 -- the dots of a line that have gone by at a prescaler: none where it is 0 or 341
@@ -15,10 +15,10 @@ screen_from line p = record { line = line; dots = dots_gone p }
 
 -- where the writes end by the cell `at`: the line that it says, or 0, and the dot, or what the prescaler says; 16 bits hold all that its
 -- limits let through
-abbrev pub screen_at : At → (prescaler : ℕ) → Screen
-screen_at Unsaid p = screen_from 0 p
-screen_at (Line l) p = screen_from (l % 65_536) p
-screen_at (Dot l d) p = record { line = l % 65_536; dots = d % 65_536 }
+abbrev pub screen_at : Option At → (prescaler : ℕ) → Screen
+screen_at None p = screen_from 0 p
+screen_at (Some (Line l)) p = screen_from (l % 65_536) p
+screen_at (Some (Dot l d)) p = record { line = l % 65_536; dots = d % 65_536 }
 
 -- the dots from the start of the line on which the writes end to clock c
 abbrev pub dots_to : Screen → (clock : ℕ) → ℕ

@@ -35,13 +35,13 @@ impl Screen {
     }
 
     // Where the writes end by the cell `at`. Without it lines count from 0.
-    pub fn at(at: At, prescaler: u16) -> Screen
+    pub fn at(at: Option<At>, prescaler: u16) -> Screen
         ensures { result ≡ screen_at at prescaler }
     {
         match at {
-            At::Unsaid => Screen::from_prescaler(0, prescaler),
-            At::Line(line) => Screen::from_prescaler((line % 65536) as u16, prescaler),
-            At::Dot(line, dot) => Screen {
+            None => Screen::from_prescaler(0, prescaler),
+            Some(At::Line(line)) => Screen::from_prescaler((line % 65536) as u16, prescaler),
+            Some(At::Dot(line, dot)) => Screen {
                 line: (line % 65536) as u16,
                 dots: (dot % 65536) as u16,
             },

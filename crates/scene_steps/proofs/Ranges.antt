@@ -13,7 +13,7 @@ use Rattle.std.proofs.Common.{Result, Ok, Err}
 use Rattle.scene_steps.specs.declared.step.StepError.{StepError}
 use Rattle.scene_steps.specs.declared.step.StepError.TheVariants.{BadAddress, BadByte, BadClocks, NoStep}
 use Rattle.scene_steps.specs.Laws.{Said, SaidLaw}
-use Rattle.scene_steps.specs.Steps.{byte_from, clocks_from, hex_of, is_reset, step_of, write_from}
+use Rattle.scene_steps.specs.Steps.{byte_from, clocks_from, hex_of, is_reset, prefix_length, step_of, write_from}
 
 -- a number within its limit
 abbrev pub Below : (limit : ℕ) → Result ℕ NumberError → Type 0
@@ -37,13 +37,16 @@ clocks_said : (n : Result ℕ NumberError) → Below 1_000_000 n → Said (clock
 clocks_said (Ok n) h = record { in_range = omega arith; wait = h }
 clocks_said (Err e) h = wrong (BadClocks e)
 
-byte_said : (a : ℕ) (n : Result ℕ NumberError) → Said (byte_from a n)
-byte_said a (Ok v) = record { in_range = (omega arith, omega arith); wait = omega arith }
-byte_said a (Err e) = wrong (BadByte e)
+byte_said : (a : ℕ) → a ≤ 65_535 → (n : Result ℕ NumberError) → Below 255 n → Said (byte_from a n)
+byte_said a k (Ok v) h = record { in_range = (omega arith, omega arith); wait = omega arith }
+byte_said a k (Err e) h = wrong (BadByte e)
 
-write_said : (a b : Result ℕ NumberError) → Said (write_from a b)
-write_said (Ok a) b = byte_said a b
-write_said (Err e) b = wrong (BadAddress e)
+write_said : (a b : Result ℕ NumberError) → Below 65_535 a → Below 255 b → Said (write_from a b)
+write_said (Ok a) b k h = byte_said a k b h
+write_said (Err e) b k h = wrong (BadAddress e)
+
+hex_below : (limit : ℕ) (w : List ℕ) → Below limit (hex_of limit w)
+hex_below limit w = below 16 limit (drop (prefix_length w) w)
 
 pub said_law : SaidLaw
 unfolding step_of
@@ -51,4 +54,4 @@ said_law w =
     either Said (is_reset w) (record { in_range = tt; wait = omega arith })
     (either Said (eqb (get_or w 0 0) 43) (clocks_said (number_of 10 1_000_000 (drop 1 w)) (below 10 1_000_000 (drop 1 w)))
     (either Said (eqb (length (from_mark 61 w)) 0) (wrong NoStep)
-    (write_said (hex_of 65_535 (before_mark 61 w)) (hex_of 255 (behind_mark 61 w)))))
+    (write_said (hex_of 65_535 (before_mark 61 w)) (hex_of 255 (behind_mark 61 w)) (hex_below 65_535 (before_mark 61 w)) (hex_below 255 (behind_mark 61 w)))))

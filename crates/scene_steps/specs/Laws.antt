@@ -1,10 +1,10 @@
 -- A step's number keeps the step, every word's step has such a number, and examples of what the definitions give. Assumes nothing.
-use Rattle.std.specs.Prelude.{◌≡◌, Result, Ok, Err, IfOk, List, ℕ, ◌≤◌, ◌<◌}
+use Rattle.std.specs.Prelude.{◌≡◌, Some, None, Result, Ok, Err, IfOk, IfSome, List, ℕ, ◌≤◌, ◌<◌}
 use Rattle.text_words.specs.Names.{codes}
 use Rattle.scene_steps.specs.declared.letters.PairError.TheVariants.{NoPair, NoSlot, NoBank}
 use Rattle.scene_steps.specs.declared.picture.At.{At}
 use Rattle.scene_steps.specs.declared.picture.AtError.TheVariants.{NoLine, NoDot, ManyWords}
-use Rattle.scene_steps.specs.declared.picture.At.TheVariants.{Unsaid, Line, Dot}
+use Rattle.scene_steps.specs.declared.picture.At.TheVariants.{Line, Dot}
 use Rattle.scene_steps.specs.declared.step.Step.{Step}
 use Rattle.scene_steps.specs.declared.step.Step.TheVariants.{Write, Clocks, Reset}
 use Rattle.scene_steps.specs.declared.step.StepError.{StepError}
@@ -35,13 +35,12 @@ SaidLaw = (w : List ℕ) → Said (step_of w)
 
 -- a line and a dot of the picture, which has 262 lines of 341 dots (docs/SCENES.md)
 abbrev pub InPicture : At → Type 0
-InPicture Unsaid = Unit {0}
 InPicture (Line line) = line ≤ 261
 InPicture (Dot line dot) = (line ≤ 261) × (dot ≤ 340)
 
 -- what the cell `at` says lies in the picture (docs/SCENES.md)
 abbrev pub InPictureLaw : Type 0
-InPictureLaw = (cell : List ℕ) → IfOk (at_in cell) InPicture
+InPictureLaw = (cell : List ℕ) → IfOk (at_in cell) (λ at. IfSome at InPicture)
 
 -- words of the cells `writes`, `menu` and `letters` (docs/SCENES.md)
 pub record StepExamples : Type 0 where
@@ -72,11 +71,11 @@ pub record StepExamples : Type 0 where
 
 -- the cell `at` (docs/SCENES.md)
 pub record AtExamples : Type 0 where
-  pub line : at_in (codes "0") ≡ Ok (Line 0)
-  pub last_line : at_in (codes " 261 ") ≡ Ok (Line 261)
-  pub dot : at_in (codes "241:1") ≡ Ok (Dot 241 1)
-  pub last_dot : at_in (codes "261:340") ≡ Ok (Dot 261 340)
-  pub unsaid : at_in (codes " ") ≡ Ok Unsaid
+  pub line : at_in (codes "0") ≡ Ok (Some (Line 0))
+  pub last_line : at_in (codes " 261 ") ≡ Ok (Some (Line 261))
+  pub dot : at_in (codes "241:1") ≡ Ok (Some (Dot 241 1))
+  pub last_dot : at_in (codes "261:340") ≡ Ok (Some (Dot 261 340))
+  pub unsaid : at_in (codes " ") ≡ Ok None
   pub no_line : at_in (codes "262") ≡ Err NoLine
   pub no_line_before : at_in (codes ":5") ≡ Err NoLine
   pub no_dot : at_in (codes "12:341") ≡ Err NoDot

@@ -28,9 +28,9 @@ abbrev pub clocks_from : Result ℕ NumberError → Result Step StepError
 clocks_from (Ok n) = Ok (Clocks n)
 clocks_from (Err e) = Err (BadClocks e)
 
--- the byte behind `=`, with the address before it: 8 bits and 16, which is all that their limits let through (docs/SCENES.md)
+-- the byte behind `=`, with the address before it (docs/SCENES.md)
 abbrev pub byte_from : (address : ℕ) → Result ℕ NumberError → Result Step StepError
-byte_from a (Ok v) = Ok (Write (a % 65_536) (v % 256))
+byte_from a (Ok v) = Ok (Write a v)
 byte_from a (Err e) = Err (BadByte e)
 
 -- the two numbers around `=` (docs/SCENES.md)

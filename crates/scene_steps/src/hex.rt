@@ -1,5 +1,5 @@
 // The hexadecimal numbers of a step, which may have `$` or `0x` before their digits.
-ghost use Rattle.std.specs.Prelude.{◌≡◌, drop};
+ghost use Rattle.std.specs.Prelude.{◌≡◌, ◌≤◌, IfOk, drop};
 ghost use Rattle.scene_steps.specs.Steps.{hex_of, prefix_length};
 
 use text_words::number::{NumberError, in_base};
@@ -17,7 +17,8 @@ fn digits_of(word: &[u8]) -> &[u8]
 
 // The number of the digits, with or without a prefix.
 pub(crate) fn in_hex(word: &[u8], limit: u32) -> Result<u32, NumberError>
-    ensures { result ≡ hex_of limit word.now }
+    ensures value { result ≡ hex_of limit word.now }
+    ensures limit { IfOk result (λ n. n ≤ limit) }
 {
     in_base(digits_of(word), 16, limit)
 }

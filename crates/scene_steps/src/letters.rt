@@ -1,8 +1,10 @@
 // A pair `slot:bank` of the letters' cell: the picture slot of 1 KiB, 0 to 7, and the bank that it must show; and whether slots do.
-ghost use Rattle.std.specs.Prelude.{◌≡◌};
+ghost use Rattle.std.specs.Prelude.{◌≡◌, Some};
 ghost use Rattle.scene_steps.specs.Letters.{pair_of, slot_right, slots_right};
+ghost use Rattle.scene_steps.specs.Texts.{pair_error_text};
 
 use scene_cells::marks::split_once;
+use std::fmt;
 use text_words::number::in_base;
 
 #[derive(Clone, Copy, PartialEq, Eq)]
@@ -17,6 +19,18 @@ pub enum PairError {
     NoPair,
     NoSlot,
     NoBank,
+}
+
+impl fmt::Display for PairError {
+    ghost output = { λ error. Some (pair_error_text error) };
+
+    fn fmt<W: fmt::Write>(&self, f: &mut fmt::Formatter<W>) -> fmt::Result {
+        f.write_str(match self {
+            PairError::NoPair => "is no pair slot:bank",
+            PairError::NoSlot => "has no slot of 0 to 7",
+            PairError::NoBank => "has no bank of 0 to 255",
+        })
+    }
 }
 
 // What a word says.

@@ -1,8 +1,10 @@
 // Where in the picture the writes end: the cell `at`, a line `L` or a line and a dot `L:D`.
-ghost use Rattle.std.specs.Prelude.{◌≡◌};
+ghost use Rattle.std.specs.Prelude.{◌≡◌, Some};
 ghost use Rattle.scene_steps.specs.Picture.{at_in, at_of};
+ghost use Rattle.scene_steps.specs.Texts.{at_error_text};
 
 use scene_cells::marks::split_once;
+use std::fmt;
 use text_words::number::in_base;
 use text_words::{is_empty, next_word};
 
@@ -13,8 +15,6 @@ pub const LAST_DOT: u32 = 340;
 
 #[derive(Clone, Copy, PartialEq, Eq)]
 pub enum At {
-    // The cell is blank.
-    Unsaid,
     Line(u32),
     Dot(u32, u32),
 }
@@ -25,6 +25,18 @@ pub enum AtError {
     NoLine,
     NoDot,
     ManyWords,
+}
+
+impl fmt::Display for AtError {
+    ghost output = { λ error. Some (at_error_text error) };
+
+    fn fmt<W: fmt::Write>(&self, f: &mut fmt::Formatter<W>) -> fmt::Result {
+        f.write_str(match self {
+            AtError::NoLine => "is no line of 0 to 261",
+            AtError::NoDot => "has no dot of 0 to 340",
+            AtError::ManyWords => "is more than one word",
+        })
+    }
 }
 
 // What a word says.
@@ -41,15 +53,15 @@ pub fn at_of(word: &[u8]) -> Result<At, AtError>
     Ok(At::Dot(line, dot))
 }
 
-// What a cell says by its only word.
-pub fn at_in(cell: &[u8]) -> Result<At, AtError>
+// What a cell says by its only word; a blank cell says nothing.
+pub fn at_in(cell: &[u8]) -> Result<Option<At>, AtError>
     ensures { result ≡ at_in cell.now }
 {
     let Some(word) = next_word(cell) else {
-        return Ok(At::Unsaid);
+        return Ok(None);
     };
     if !is_empty(word.rest) {
         return Err(AtError::ManyWords);
     }
-    at_of(word.bytes)
+    at_of(word.bytes).map(Some)
 }

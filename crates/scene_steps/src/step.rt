@@ -1,9 +1,11 @@
 // A step of a scene: a CPU write `AAAA=BB`, clocks `+N`, or `reset`, capitals or not.
-ghost use Rattle.std.specs.Prelude.{◌≡◌};
+ghost use Rattle.std.specs.Prelude.{◌≡◌, Some};
 ghost use Rattle.scene_steps.specs.Steps.{code_of, hex_of, step_coded, step_of, write_from};
+ghost use Rattle.scene_steps.specs.Texts.{step_error_text};
 
 use crate::hex::in_hex;
 use scene_cells::marks::split_once;
+use std::fmt;
 use text_words::names::same_name;
 use text_words::number::{NumberError, in_base};
 
@@ -27,13 +29,29 @@ pub enum StepError {
     NoStep,
 }
 
-// The limits leave an address of 16 bits and a byte of 8.
+impl fmt::Display for StepError {
+    ghost output = { λ error. Some (step_error_text error) };
+
+    fn fmt<W: fmt::Write>(&self, f: &mut fmt::Formatter<W>) -> fmt::Result {
+        f.write_str(match self {
+            StepError::BadAddress(NumberError::NoNumber) => "is no hexadecimal address",
+            StepError::BadAddress(NumberError::TooLarge) => "has an address above FFFF",
+            StepError::BadByte(NumberError::NoNumber) => "is no hexadecimal byte",
+            StepError::BadByte(NumberError::TooLarge) => "has a byte above FF",
+            StepError::BadClocks(NumberError::NoNumber) => "is no number of clocks",
+            StepError::BadClocks(NumberError::TooLarge) => "is above 1000000 clocks",
+            StepError::NoStep => "is no step: AAAA=BB, +N or reset",
+        })
+    }
+}
+
+// An address of 16 bits and a byte of 8, as the limits are.
 fn write_of(address: &[u8], byte: &[u8]) -> Result<Step, StepError>
     ensures { result ≡ write_from (hex_of 65535 address.now) (hex_of 255 byte.now) }
 {
     let addr = in_hex(address, 0xFFFF).map_err(StepError::BadAddress)?;
     let val = in_hex(byte, 0xFF).map_err(StepError::BadByte)?;
-    Ok(Step::Write((addr % 65536) as u16, (val % 256) as u8))
+    Ok(Step::Write(addr as u16, val as u8))
 }
 
 // What a word says.

@@ -8,7 +8,6 @@ use scene_steps::picture::AtError;
 use scene_steps::step::StepError;
 use std::fmt;
 use text_output::{Output, put};
-use text_words::number::NumberError;
 use vrc6_banking::banking::{Mirroring, Revision};
 
 // What is wrong with a row, or with a cell as a whole.
@@ -83,41 +82,13 @@ pub enum WordFault {
     Refused(Refusal),
 }
 
-fn of_step(error: StepError) -> &'static str {
-    match error {
-        StepError::BadAddress(NumberError::NoNumber) => "is no hexadecimal address",
-        StepError::BadAddress(NumberError::TooLarge) => "has an address above FFFF",
-        StepError::BadByte(NumberError::NoNumber) => "is no hexadecimal byte",
-        StepError::BadByte(NumberError::TooLarge) => "has a byte above FF",
-        StepError::BadClocks(NumberError::NoNumber) => "is no number of clocks",
-        StepError::BadClocks(NumberError::TooLarge) => "is above 1000000 clocks",
-        StepError::NoStep => "is no step: AAAA=BB, +N or reset",
-    }
-}
-
-fn of_pair(error: PairError) -> &'static str {
-    match error {
-        PairError::NoPair => "is no pair slot:bank",
-        PairError::NoSlot => "has no slot of 0 to 7",
-        PairError::NoBank => "has no bank of 0 to 255",
-    }
-}
-
-fn of_place(error: AtError) -> &'static str {
-    match error {
-        AtError::NoLine => "is no line of 0 to 261",
-        AtError::NoDot => "has no dot of 0 to 340",
-        AtError::ManyWords => "is more than one word",
-    }
-}
-
 impl fmt::Display for WordFault {
     fn fmt<W: fmt::Write>(&self, f: &mut fmt::Formatter<W>) -> fmt::Result {
         match self {
-            WordFault::Step(error) => f.write_str(of_step(*error)),
-            WordFault::Pair(error) => f.write_str(of_pair(*error)),
+            WordFault::Step(error) => write!(f, "{error}"),
+            WordFault::Pair(error) => write!(f, "{error}"),
             WordFault::SecondBank => f.write_str("is a second bank for its slot"),
-            WordFault::Place(error) => f.write_str(of_place(*error)),
+            WordFault::Place(error) => write!(f, "{error}"),
             WordFault::NoDecimal => f.write_str("is no decimal number"),
             WordFault::NoRevision => f.write_str("is no revision: A or B"),
             WordFault::NoMirroring => f.write_str("is no mirroring: V, H, A, B or 4"),

@@ -98,7 +98,7 @@ impl Reader<'_> {
     }
 
     // Where the writes end.
-    fn at(self, out: &mut Output) -> Result<At, Told> {
+    fn at(self, out: &mut Output) -> Result<Option<At>, Told> {
         match at_in(self.row.bytes(Column::At)) {
             Ok(at) => Ok(at),
             Err(error) => Err(self.tell(out, Column::At, WordFault::Place(error))),

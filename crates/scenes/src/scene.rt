@@ -29,7 +29,7 @@ pub struct Scene<'a> {
     pub rom: &'a [u8],
     // The line on which the interrupt must come, if one is given.
     pub window: Option<u32>,
-    pub at: At,
+    pub at: Option<At>,
     // Whether the menu's handler leaves interrupts open.
     pub unmasked: bool,
     pub writes: Vec<Step>,
