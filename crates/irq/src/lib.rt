@@ -100,7 +100,7 @@ impl VrcIrq {
         ensures { result ≡ irq_written_to (decode revision_b addr) val self }
     {
         match decode(revision_b, addr) {
-            Register::OfIrq(register) => self.write_register(register, val),
+            Some(Register::OfIrq(register)) => self.write_register(register, val),
             _ => self,
         }
     }

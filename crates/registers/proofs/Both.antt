@@ -4,7 +4,7 @@ use mathlib.Core.Bool.{Bool, true, false}
 use Prim.Native.Nat.{ℕ, ◌+◌, ◌*◌, ◌/◌, ◌%◌, ◌<◌}
 use native.Mathlib.Omega.{arith}
 use Rattle.registers.specs.Decode.{decode, lines, register_at}
-use Rattle.registers.specs.declared.Register.TheVariants.{Nothing}
+use Rattle.std.specs.Prelude.{None}
 use Rattle.registers.specs.Laws.{NothingLaw, SwapLaw, exchanged}
 use Rattle.registers.proofs.Table.{fourth, low}
 
@@ -18,8 +18,8 @@ last true a h = omega arith
 last false a h = h
 
 -- the fourth register of a row that has none
-none : (row : ℕ) → Nothing ≡ register_at row 3 → (b : Bool) (a : ℕ) → a / 4096 ≡ row → a % 4 ≡ 3 → decode b a ≡ Nothing
-none row g b a e h = sym (fourth b a row (lines b a) e (refl, lines_low b a) Nothing g (omega (arith, last b a h)))
+none : (row : ℕ) → None ≡ register_at row 3 → (b : Bool) (a : ℕ) → a / 4096 ≡ row → a % 4 ≡ 3 → decode b a ≡ None
+none row g b a e h = sym (fourth b a row (lines b a) e (refl, lines_low b a) None g (omega (arith, last b a h)))
 
 pub nothing_law : NothingLaw
 nothing_law =

@@ -54,10 +54,9 @@ pub enum IrqRegister {
     Acknowledge,
 }
 
-// What a write reaches: nothing below $8000, at $A003 and at $F003.
+// A register of the board, by the part that has it.
 #[derive(Clone, Copy, PartialEq, Eq)]
 pub enum Register {
-    Nothing,
     OfBank(BankRegister),
     OfAudio(AudioRegister),
     OfIrq(IrqRegister),
@@ -93,24 +92,25 @@ fn chr_register(first: u8, line: u16) -> Register
     Register::OfBank(BankRegister::Chr(first + line as u8))
 }
 
-// Only lines 0, 1 and 12 to 15 are decoded, so each register repeats through its 4 KiB.
-pub fn decode(revision_b: bool, addr: u16) -> Register
+// The register that a write reaches: none below $8000, at $A003 and at $F003. Only lines 0, 1 and 12 to 15 are decoded, so each register
+// repeats through its 4 KiB.
+pub fn decode(revision_b: bool, addr: u16) -> Option<Register>
     ensures { result ≡ decode revision_b addr }
 {
     match (addr / 0x1000, lines(revision_b, addr)) {
-        (0x8, _) => Register::OfBank(BankRegister::Prg16),
-        (0x9, 3) => Register::OfAudio(AudioRegister::Halt),
-        (0x9, line) => Register::OfAudio(AudioRegister::Pulse1(channel_register(line))),
-        (0xA, 3) => Register::Nothing,
-        (0xA, line) => Register::OfAudio(AudioRegister::Pulse2(channel_register(line))),
-        (0xB, 3) => Register::OfBank(BankRegister::Mode),
-        (0xB, line) => Register::OfAudio(AudioRegister::OfSaw(channel_register(line))),
-        (0xC, _) => Register::OfBank(BankRegister::Prg8),
-        (0xD, line) => chr_register(0, line),
-        (0xE, line) => chr_register(4, line),
-        (0xF, 0) => Register::OfIrq(IrqRegister::Reload),
-        (0xF, 1) => Register::OfIrq(IrqRegister::Control),
-        (0xF, 2) => Register::OfIrq(IrqRegister::Acknowledge),
-        _ => Register::Nothing,
+        (0x8, _) => Some(Register::OfBank(BankRegister::Prg16)),
+        (0x9, 3) => Some(Register::OfAudio(AudioRegister::Halt)),
+        (0x9, line) => Some(Register::OfAudio(AudioRegister::Pulse1(channel_register(line)))),
+        (0xA, 3) => None,
+        (0xA, line) => Some(Register::OfAudio(AudioRegister::Pulse2(channel_register(line)))),
+        (0xB, 3) => Some(Register::OfBank(BankRegister::Mode)),
+        (0xB, line) => Some(Register::OfAudio(AudioRegister::OfSaw(channel_register(line)))),
+        (0xC, _) => Some(Register::OfBank(BankRegister::Prg8)),
+        (0xD, line) => Some(chr_register(0, line)),
+        (0xE, line) => Some(chr_register(4, line)),
+        (0xF, 0) => Some(Register::OfIrq(IrqRegister::Reload)),
+        (0xF, 1) => Some(Register::OfIrq(IrqRegister::Control)),
+        (0xF, 2) => Some(Register::OfIrq(IrqRegister::Acknowledge)),
+        _ => None,
     }
 }

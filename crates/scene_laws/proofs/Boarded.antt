@@ -2,12 +2,12 @@
 use mathlib.Core.Path.{◌≡◌, refl, sym, ap, ◌∙◌}
 use mathlib.Core.Bool.{Bool}
 use Prim.Native.Nat.{ℕ}
+use Rattle.std.specs.Prelude.{Some, None}
 use Rattle.base_steps.proofs.Iterated.{carried, keeps}
 use Rattle.registers.specs.declared.BankRegister.{BankRegister}
 use Rattle.registers.specs.declared.BankRegister.TheVariants.{Prg16, Prg8, Mode, Chr}
-use Rattle.registers.specs.declared.Register.{Register}
-use Rattle.registers.specs.declared.Register.TheVariants.{Nothing, OfBank, OfAudio, OfIrq}
-use Rattle.registers.specs.Decode.{decode}
+use Rattle.registers.specs.declared.Register.TheVariants.{OfBank, OfAudio, OfIrq}
+use Rattle.registers.specs.Decode.{Decoded, decode}
 use Rattle.vrc6_banking.specs.declared.banking.Banking.{Banking}
 use Rattle.vrc6_banking.specs.Banking.{bank_written}
 use Rattle.irq.specs.Timing.{clock_answer}
@@ -30,17 +30,17 @@ same_revision Mode v b = refl
 same_revision (Chr i) v b = refl
 
 module _ (v : ℕ) (b : Board) where
-  counter_taken : (r : Register) → (register_written r v b).irq ≡ irq_written_to r v b.irq
-  counter_taken Nothing = refl
-  counter_taken (OfBank r) = refl
-  counter_taken (OfAudio r) = refl
-  counter_taken (OfIrq r) = refl
+  counter_taken : (r : Decoded) → (register_written r v b).irq ≡ irq_written_to r v b.irq
+  counter_taken None = refl
+  counter_taken (Some (OfBank r)) = refl
+  counter_taken (Some (OfAudio r)) = refl
+  counter_taken (Some (OfIrq r)) = refl
 
-  revision_kept : (r : Register) → (register_written r v b).banking.revision_b ≡ b.banking.revision_b
-  revision_kept Nothing = refl
-  revision_kept (OfBank r) = same_revision r v b.banking
-  revision_kept (OfAudio r) = refl
-  revision_kept (OfIrq r) = refl
+  revision_kept : (r : Decoded) → (register_written r v b).banking.revision_b ≡ b.banking.revision_b
+  revision_kept None = refl
+  revision_kept (Some (OfBank r)) = same_revision r v b.banking
+  revision_kept (Some (OfAudio r)) = refl
+  revision_kept (Some (OfIrq r)) = refl
 
 -- ---- what a call does
 module _ (x : State) where

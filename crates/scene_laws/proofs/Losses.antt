@@ -14,10 +14,9 @@ use lib.ListN.{replicate, replicate-append-replicate}
 use Rattle.base_shared.proofs.Tests.{either, tested}
 use Rattle.base_steps.specs.Times.{times}
 use Rattle.base_steps.proofs.Iterated.{times_add}
-use Rattle.registers.specs.declared.Register.{Register}
-use Rattle.registers.specs.declared.Register.TheVariants.{Nothing, OfBank, OfAudio, OfIrq}
+use Rattle.registers.specs.declared.Register.TheVariants.{OfBank, OfAudio, OfIrq}
 use Rattle.registers.specs.declared.IrqRegister.TheVariants.{Reload, Control, Acknowledge}
-use Rattle.registers.specs.Decode.{decode}
+use Rattle.registers.specs.Decode.{Decoded, decode}
 use Rattle.irq.specs.declared.VrcIrq.{VrcIrq}
 use Rattle.irq.specs.Interrupt.{irq_zero}
 use Rattle.irq.specs.Timing.{line_step, line_length, clock_answer}
@@ -65,13 +64,13 @@ clocked_set q h = pending_law line_step line_length q ∙ ap (λ (c : Bool). irq
     or_true false = refl
 
 -- a register clears it or leaves it
-taken_set : (r : Register) (v : ℕ) (q : VrcIrq) → Set q → (irq_written_to r v q).irq_pending ≡ not (clears r)
-taken_set Nothing v q h = h
-taken_set (OfBank r) v q h = h
-taken_set (OfAudio r) v q h = h
-taken_set (OfIrq Reload) v q h = h
-taken_set (OfIrq Control) v q h = refl
-taken_set (OfIrq Acknowledge) v q h = refl
+taken_set : (r : Decoded) (v : ℕ) (q : VrcIrq) → Set q → (irq_written_to r v q).irq_pending ≡ not (clears r)
+taken_set None v q h = h
+taken_set (Some (OfBank r)) v q h = h
+taken_set (Some (OfAudio r)) v q h = h
+taken_set (Some (OfIrq Reload)) v q h = h
+taken_set (Some (OfIrq Control)) v q h = refl
+taken_set (Some (OfIrq Acknowledge)) v q h = refl
 
 set_after : (n : ℕ) (q : VrcIrq) → Set q → Set (irq_clocked_times line_step line_length n q)
 unfolding times

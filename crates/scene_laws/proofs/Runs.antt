@@ -6,13 +6,13 @@ use mathlib.Core.Option.{Option, none, some}
 use Prim.Native.Nat.{ℕ, zero, suc, ◌+◌, ◌-◌, ◌≤◌, ◌<◌}
 use native.Mathlib.Nat.{add-zero}
 use native.Mathlib.Omega.{arith}
-use Rattle.std.proofs.Common.{Some, max}
+use Rattle.std.proofs.Common.{Some, max, None}
 use lib.ListN.{replicate, replicate-append-replicate}
 use borrow.Author.Tests.{leb-true}
 use Rattle.base_shared.proofs.Tests.{either, tested}
 use Rattle.base_steps.specs.Times.{times}
-use Rattle.registers.specs.declared.Register.{Register}
-use Rattle.registers.specs.declared.Register.TheVariants.{Nothing, OfBank, OfAudio, OfIrq}
+use Rattle.registers.specs.Decode.{Decoded}
+use Rattle.registers.specs.declared.Register.TheVariants.{OfBank, OfAudio, OfIrq}
 use Rattle.registers.specs.declared.IrqRegister.TheVariants.{Reload, Control, Acknowledge}
 use Rattle.irq.specs.declared.VrcIrq.{VrcIrq}
 use Rattle.irq.specs.Interrupt.{irq_in_range, irq_zero, forecast_in}
@@ -40,15 +40,15 @@ pub record Fine (q : VrcIrq) : Type 0 where
 pub fine_clocked : (q : VrcIrq) → Fine q → Fine (clock_answer q).irq
 fine_clocked q f = record { bytes = (bytes_law line_step line_length q).clock f.bytes; range = (prescaler_law line_step line_length pace q).clock f.range }
 
-pub fine_taken : (r : Register) (v : ℕ) (q : VrcIrq) → v ≤ 255 → Fine q → Fine (irq_written_to r v q)
-fine_taken Nothing v q h f = f
-fine_taken (OfBank r) v q h f = f
-fine_taken (OfAudio r) v q h f = f
-fine_taken (OfIrq Reload) v q h f =
+pub fine_taken : (r : Decoded) (v : ℕ) (q : VrcIrq) → v ≤ 255 → Fine q → Fine (irq_written_to r v q)
+fine_taken None v q h f = f
+fine_taken (Some (OfBank r)) v q h f = f
+fine_taken (Some (OfAudio r)) v q h f = f
+fine_taken (Some (OfIrq Reload)) v q h f =
     record { bytes = (bytes_law line_step line_length q).reload v h f.bytes; range = (prescaler_law line_step line_length pace q).reload v f.range }
-fine_taken (OfIrq Control) v q h f =
+fine_taken (Some (OfIrq Control)) v q h f =
     record { bytes = (bytes_law line_step line_length q).control v f.bytes; range = (prescaler_law line_step line_length pace q).control v f.range }
-fine_taken (OfIrq Acknowledge) v q h f =
+fine_taken (Some (OfIrq Acknowledge)) v q h f =
     record { bytes = (bytes_law line_step line_length q).acknowledge f.bytes; range = (prescaler_law line_step line_length pace q).acknowledge f.range }
 
 pub fine_zero : Fine irq_zero
@@ -60,15 +60,15 @@ pub record Ready (q : VrcIrq) : Type 0 where
   pub clear : q.irq_pending ≡ false
 
 -- a register leaves pending alone or clears it
-pub taken_clear : (r : Register) (v : ℕ) (q : VrcIrq) → q.irq_pending ≡ false → (irq_written_to r v q).irq_pending ≡ false
-taken_clear Nothing v q h = h
-taken_clear (OfBank r) v q h = h
-taken_clear (OfAudio r) v q h = h
-taken_clear (OfIrq Reload) v q h = h
-taken_clear (OfIrq Control) v q h = refl
-taken_clear (OfIrq Acknowledge) v q h = refl
+pub taken_clear : (r : Decoded) (v : ℕ) (q : VrcIrq) → q.irq_pending ≡ false → (irq_written_to r v q).irq_pending ≡ false
+taken_clear None v q h = h
+taken_clear (Some (OfBank r)) v q h = h
+taken_clear (Some (OfAudio r)) v q h = h
+taken_clear (Some (OfIrq Reload)) v q h = h
+taken_clear (Some (OfIrq Control)) v q h = refl
+taken_clear (Some (OfIrq Acknowledge)) v q h = refl
 
-pub ready_taken : (r : Register) (v : ℕ) (q : VrcIrq) → v ≤ 255 → Ready q → Ready (irq_written_to r v q)
+pub ready_taken : (r : Decoded) (v : ℕ) (q : VrcIrq) → v ≤ 255 → Ready q → Ready (irq_written_to r v q)
 ready_taken r v q h f = record { fine = fine_taken r v q h f.fine; clear = taken_clear r v q f.clear }
 
 pub ready_zero : Ready irq_zero

@@ -1,9 +1,8 @@
 -- The counter at a moment, what a handler's steps do to it, and when the interrupt comes (docs/SCENES.md). Assumes nothing.
 use Rattle.std.specs.Prelude.{Option, Some, None, option_map, ℕ, ◌+◌, ◌%◌, ◌^◌, max, Bool, true, false, cond, List, [], ◌∷◌, fold, nat_le}
-use Rattle.registers.specs.declared.Register.{Register}
-use Rattle.registers.specs.declared.Register.TheVariants.{Nothing, OfBank, OfAudio, OfIrq}
+use Rattle.registers.specs.declared.Register.TheVariants.{OfBank, OfAudio, OfIrq}
 use Rattle.registers.specs.declared.IrqRegister.TheVariants.{Reload, Control, Acknowledge}
-use Rattle.registers.specs.Decode.{decode}
+use Rattle.registers.specs.Decode.{Decoded, decode}
 use Rattle.irq.specs.declared.VrcIrq.{VrcIrq}
 use Rattle.irq.specs.Interrupt.{irq_zero}
 use Rattle.irq.specs.Timing.{line_step, line_length, forecast_answer}
@@ -53,13 +52,13 @@ step_taken b (Clocks n) q clock = waited n q clock
 step_taken b Reset q clock = Waiting irq_zero clock
 
 -- the registers that clear pending (01, Interrupt 1; VRC IRQ)
-abbrev pub clears : Register → Bool
-clears Nothing = false
-clears (OfBank r) = false
-clears (OfAudio r) = false
-clears (OfIrq Reload) = false
-clears (OfIrq Control) = true
-clears (OfIrq Acknowledge) = true
+abbrev pub clears : Decoded → Bool
+clears None = false
+clears (Some (OfBank r)) = false
+clears (Some (OfAudio r)) = false
+clears (Some (OfIrq Reload)) = false
+clears (Some (OfIrq Control)) = true
+clears (Some (OfIrq Acknowledge)) = true
 
 -- a step while the interrupt is pending: control, acknowledge and reset clear it, and clocks go by
 abbrev pub step_pending : (revision_b : Bool) → Step → (set clock : ℕ) → Moment

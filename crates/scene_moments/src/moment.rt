@@ -56,7 +56,7 @@ fn clears(revision_b: bool, addr: u16) -> bool
 {
     matches!(
         decode(revision_b, addr),
-        Register::OfIrq(IrqRegister::Control | IrqRegister::Acknowledge)
+        Some(Register::OfIrq(IrqRegister::Control | IrqRegister::Acknowledge))
     )
 }
 

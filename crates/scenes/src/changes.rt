@@ -12,7 +12,7 @@ use text_output::{Output, put};
 fn with_latch(step: Step, revision_b: bool, latch: u8) -> Step {
     match step {
         Step::Write(addr, _) => match decode(revision_b, addr) {
-            Register::OfIrq(IrqRegister::Reload) => Step::Write(addr, latch),
+            Some(Register::OfIrq(IrqRegister::Reload)) => Step::Write(addr, latch),
             _ => step,
         },
         _ => step,
@@ -23,7 +23,7 @@ fn with_latch(step: Step, revision_b: bool, latch: u8) -> Step {
 fn unreached(step: Step, revision_b: bool) -> Option<u16> {
     match step {
         Step::Write(addr, _) => match decode(revision_b, addr) {
-            Register::Nothing if addr < 0x6000 || 0x8000 <= addr => Some(addr),
+            None if addr < 0x6000 || 0x8000 <= addr => Some(addr),
             _ => None,
         },
         _ => None,

@@ -1,11 +1,10 @@
 -- The board's calls: what each does, and its whole answer, refused or not (01, The board's calls; 00, 1; 00, 2). Assumes nothing.
-use Rattle.std.specs.Prelude.{true, false, List, ℕ, length}
+use Rattle.std.specs.Prelude.{true, false, List, ℕ, length, Some, None}
 use Rattle.base_shared.specs.Refusals.{unless}
 use Rattle.memory_tables.specs.Paging.{Side, cpu, picture}
 use Rattle.memory_access.specs.Access.{stored, viewed}
-use Rattle.registers.specs.declared.Register.{Register}
-use Rattle.registers.specs.declared.Register.TheVariants.{Nothing, OfBank, OfAudio, OfIrq}
-use Rattle.registers.specs.Decode.{decode}
+use Rattle.registers.specs.declared.Register.TheVariants.{OfBank, OfAudio, OfIrq}
+use Rattle.registers.specs.Decode.{Decoded, decode}
 use Rattle.vrc6_banking.specs.Banking.{bank_written}
 use Rattle.irq.specs.Writes.{irq_written}
 use Rattle.audio.specs.Sound.{audio_written}
@@ -45,11 +44,11 @@ byte_read k x address =
 
 -- ---- writes
 -- a register takes a byte; after a bank write all entries are rebuilt (01, Banks and decode 2)
-abbrev pub register_written : Register → (v : ℕ) → Board → Board
-register_written Nothing v b = b
-register_written (OfBank r) v b = with_banking b (bank_written r v b.banking)
-register_written (OfAudio r) v b = record b { audio = audio_written r v b.audio }
-register_written (OfIrq r) v b = record b { irq = irq_written r v b.irq }
+abbrev pub register_written : Decoded → (v : ℕ) → Board → Board
+register_written None v b = b
+register_written (Some (OfBank r)) v b = with_banking b (bank_written r v b.banking)
+register_written (Some (OfAudio r)) v b = record b { audio = audio_written r v b.audio }
+register_written (Some (OfIrq r)) v b = record b { irq = irq_written r v b.irq }
 
 -- the register at an address takes a byte, and where there is none the board stays (01, Banks and decode 1)
 abbrev pub written_at : Board → (address byte : ℕ) → Board

@@ -1,5 +1,5 @@
 // The calls that store a byte: CPU write, which then reaches a register, and picture write.
-ghost use Rattle.std.specs.Prelude.{◌≡◌, true};
+ghost use Rattle.std.specs.Prelude.{◌≡◌, true, Some};
 ghost use Rattle.memory_layout.specs.Layout.{within_limits};
 ghost use Rattle.registers.specs.declared.Register.TheVariants.{OfBank};
 ghost use Rattle.vrc6_parts.specs.declared.writes.Part.TheVariants.{Banks, Sound, Interrupt};
@@ -20,7 +20,7 @@ impl Board {
     // A bank register takes a byte, and every entry is rebuilt from the banking values. Above the limits
     // of a layout the board stays; no caller comes here so.
     fn write_bank(mut self, register: BankRegister, val: u8) -> Board
-        ensures { within_limits self.layout ≡ true → result ≡ register_written (OfBank register) val self }
+        ensures { within_limits self.layout ≡ true → result ≡ register_written (Some (OfBank register)) val self }
     {
         if let Some(limited) = self.layout.limited() {
             let banking = self.banking.write_register(register, val);
@@ -36,7 +36,7 @@ impl Board {
         ensures { Reaches Banks self addr → result ≡ written_at self addr val }
     {
         match decode(self.banking.revision_b, addr) {
-            Register::OfBank(register) => self.write_bank(register, val),
+            Some(Register::OfBank(register)) => self.write_bank(register, val),
             _ => self,
         }
     }

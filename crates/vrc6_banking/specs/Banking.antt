@@ -21,6 +21,11 @@ abbrev pub revision_number : Revision → ℕ
 revision_number A = 0
 revision_number B = 1
 
+-- its letter, as a byte: A or B (docs/SCENES.md)
+abbrev pub revision_letter : Revision → ℕ
+revision_letter A = 0x41
+revision_letter B = 0x42
+
 -- what a number stands for: the revision that has it, or, above 1, none (01, The board's calls 1)
 abbrev pub RevisionNumbered : ℕ → Result Revision UnknownNumber → Type 0
 RevisionNumbered n r = MatchResult r (λ v. revision_number v ≡ n) (λ e. (e.0 ≡ n) × (1 < n))

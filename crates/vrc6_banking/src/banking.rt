@@ -1,9 +1,11 @@
 // The banking values of a board.
-ghost use Rattle.std.specs.Prelude.{◌≡◌};
+ghost use Rattle.std.specs.Prelude.{◌≡◌, Some, [], ◌∷◌};
 ghost use Rattle.vrc6_slots.specs.Chr.{chr_slots};
-ghost use Rattle.vrc6_banking.specs.Banking.{RevisionNumbered, bank_written, banking_in_range, first_banking, renamed, revision_number, settings_of, zero_banking};
+ghost use Rattle.vrc6_banking.specs.Banking.{RevisionNumbered, bank_written, banking_in_range, first_banking, renamed, revision_letter, revision_number, settings_of, zero_banking};
 
 use registers::BankRegister;
+use std::fmt;
+use std::fmt::{Display, Formatter};
 use vrc6_slots::chr::chr_slots;
 use vrc6_slots::nametables::{mirroring_numbers, nametable_mirroring, nametable_numbers};
 pub use vrc6_slots::{Mirroring, UnknownNumber};
@@ -35,6 +37,18 @@ impl TryFrom<u8> for Revision {
             1 => Ok(Revision::B),
             _ => Err(UnknownNumber(number)),
         }
+    }
+}
+
+// The letter that sheets and rows of headers write for it.
+impl Display for Revision {
+    ghost output = { λ revision. Some (revision_letter revision ∷ []) };
+
+    fn fmt<W: fmt::Write>(&self, f: &mut Formatter<W>) -> fmt::Result {
+        f.write_str(match self {
+            Revision::A => "A",
+            Revision::B => "B",
+        })
     }
 }
 

@@ -11,7 +11,7 @@ use Rattle.memory_pages.specs.Pages.{unmapped, writable}
 use Rattle.memory_tables.specs.Paging.{Side, cpu, picture, entry_for}
 use Rattle.memory_access.specs.Access.{byte_at, plain_refusal, peeked, written}
 use Rattle.memory_access.proofs.Stored.{byte_stored_law as stored-access, page_viewed_law as view-access}
-use Rattle.registers.specs.declared.Register.{Register}
+use Rattle.registers.specs.Decode.{Decoded}
 use Rattle.registers.proofs.Both.{nothing_law}
 use Rattle.vrc6_parts.specs.Reads.{Caller}
 use Rattle.vrc6_parts.proofs.Handed.{mapped_shows, writable_mapped}
@@ -65,7 +65,7 @@ wrote_law x a v =
     record {
       by_picture = λ h. next_done x (PictureWrite a v) h;
       by_cpu = λ h low. next_done x (CpuWrite a v) h
-          ∙ ap (λ (k : Register). held_by (register_written k v x.board) x.fixed (stored_at cpu x a v)) (nothing_law.low x.board.banking.revision_b a low);
+          ∙ ap (λ (k : Decoded). held_by (register_written k v x.board) x.fixed (stored_at cpu x a v)) (nothing_law.low x.board.banking.revision_b a low);
       buffers = λ h. ap bytes (next_done x (CpuWrite a v) h);
     }
 

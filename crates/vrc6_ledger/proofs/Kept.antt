@@ -6,6 +6,7 @@ use native.Mathlib.Omega.{arith}
 use lib.Dec.{eqb, leb, ltb}
 use lib.ListN.{length, length-set}
 use borrow.Author.Tests.{eqb-true, le-leb, eq-eqb}
+use Rattle.std.specs.Prelude.{Some, None}
 use Rattle.base_shared.specs.Bits.{bit}
 use Rattle.base_shared.proofs.Tests.{both, and_left, and_right, either, tested}
 use Rattle.base_shared.proofs.Numbers.{none_fails}
@@ -15,11 +16,10 @@ use Rattle.memory_pages.specs.Pages.{writable}
 use Rattle.memory_layout.specs.Layout.{fixed_length, changing_length, within_limits, lengths_fit}
 use Rattle.memory_layout.specs.Entries.{entry_in_range}
 use Rattle.memory_tables.specs.Paging.{Side, cpu, picture, entry_for}
-use Rattle.registers.specs.declared.Register.{Register}
-use Rattle.registers.specs.declared.Register.TheVariants.{Nothing, OfBank, OfAudio, OfIrq}
+use Rattle.registers.specs.declared.Register.TheVariants.{OfBank, OfAudio, OfIrq}
 use Rattle.registers.specs.declared.BankRegister.TheVariants.{Prg16, Prg8, Mode, Chr}
 use Rattle.registers.specs.declared.IrqRegister.TheVariants.{Reload, Control, Acknowledge}
-use Rattle.registers.specs.Decode.{decode}
+use Rattle.registers.specs.Decode.{Decoded, decode}
 use Rattle.vrc6_slots.specs.declared.Mirroring.{Mirroring}
 use Rattle.vrc6_slots.specs.declared.Mirroring.TheVariants.{Vertical, Horizontal, SingleScreenA, SingleScreenB, FourScreen}
 use Rattle.vrc6_banking.specs.declared.banking.Settings.{Settings}
@@ -116,33 +116,33 @@ kept_length c s l a v =
     either (λ xs. length xs ≡ length l.copy) (writable (entry_for s (entries s c l) a))
     (length-set l.copy _ v) refl
 
-pub kept_eight : (k : Register) (v : ℕ) (g : Registers) → length (registers_after k v g).chr ≡ length g.chr
-kept_eight Nothing v g = refl
-kept_eight (OfBank Prg16) v g = refl
-kept_eight (OfBank Prg8) v g = refl
-kept_eight (OfBank Mode) v g = refl
-kept_eight (OfBank (Chr i)) v g = length-set g.chr i _
-kept_eight (OfAudio s) v g = refl
-kept_eight (OfIrq i) v g = refl
+pub kept_eight : (k : Decoded) (v : ℕ) (g : Registers) → length (registers_after k v g).chr ≡ length g.chr
+kept_eight None v g = refl
+kept_eight (Some (OfBank Prg16)) v g = refl
+kept_eight (Some (OfBank Prg8)) v g = refl
+kept_eight (Some (OfBank Mode)) v g = refl
+kept_eight (Some (OfBank (Chr i))) v g = length-set g.chr i _
+kept_eight (Some (OfAudio s)) v g = refl
+kept_eight (Some (OfIrq i)) v g = refl
 
-kept_timing : (k : Register) (v : ℕ) (t : Timing) → t.prescaler ≤ 341 → (timing_after k v t).prescaler ≤ 341
-kept_timing Nothing v t h = h
-kept_timing (OfBank b) v t h = h
-kept_timing (OfAudio s) v t h = h
-kept_timing (OfIrq Reload) v t h = h
-kept_timing (OfIrq Control) v t h = either (λ n. n ≤ 341) (bit 1 v) (omega arith) h
-kept_timing (OfIrq Acknowledge) v t h = h
+kept_timing : (k : Decoded) (v : ℕ) (t : Timing) → t.prescaler ≤ 341 → (timing_after k v t).prescaler ≤ 341
+kept_timing None v t h = h
+kept_timing (Some (OfBank b)) v t h = h
+kept_timing (Some (OfAudio s)) v t h = h
+kept_timing (Some (OfIrq Reload)) v t h = h
+kept_timing (Some (OfIrq Control)) v t h = either (λ n. n ≤ 341) (bit 1 v) (omega arith) h
+kept_timing (Some (OfIrq Acknowledge)) v t h = h
 
 clocked_timing : (t : Timing) → t.prescaler ≤ 341 → (timing_clocked t).prescaler ≤ 341
 clocked_timing t h =
     either (λ n. n ≤ 341) (t.enabled && not t.cycle)
     (rw (same_fall t.prescaler) ((one_clock line_step line_length pace t.prescaler).within h)) h
 
-kept_audio : (k : Register) (v : ℕ) (x : Audio) → Sounds x → Sounds (audio_written_to k v x)
-kept_audio Nothing v x h = h
-kept_audio (OfBank b) v x h = h
-kept_audio (OfAudio s) v x h = written_sounds s v x h
-kept_audio (OfIrq i) v x h = h
+kept_audio : (k : Decoded) (v : ℕ) (x : Audio) → Sounds x → Sounds (audio_written_to k v x)
+kept_audio None v x h = h
+kept_audio (Some (OfBank b)) v x h = h
+kept_audio (Some (OfAudio s)) v x h = written_sounds s v x h
+kept_audio (Some (OfIrq i)) v x h = h
 
 module _ (c : Creation) (ok : Accepted c) where
   pub first_kept : Kept c (opening c) (audio_at 1)

@@ -9,15 +9,15 @@ use lib.Dec.{eqb}
 use lib.ListN.{length, get_or, set, replicate}
 use lib.Seq.{get_or-set_same, get_or-set_other}
 use borrow.Author.Tests.{eqb-true, eqb-false}
+use Rattle.std.specs.Prelude.{Some, None}
 use Rattle.base_shared.proofs.Tests.{tested}
 use Rattle.memory_pages.specs.declared.page.Page.{Page}
 use Rattle.memory_pages.specs.Pages.{offset, writable}
 use Rattle.memory_tables.specs.Paging.{cpu, picture, entry_for}
-use Rattle.registers.specs.declared.Register.{Register}
-use Rattle.registers.specs.declared.Register.TheVariants.{Nothing, OfBank, OfAudio, OfIrq}
+use Rattle.registers.specs.declared.Register.TheVariants.{OfBank, OfAudio, OfIrq}
 use Rattle.registers.specs.declared.BankRegister.{BankRegister}
 use Rattle.registers.specs.declared.BankRegister.TheVariants.{Prg16, Prg8, Mode, Chr}
-use Rattle.registers.specs.Decode.{decode}
+use Rattle.registers.specs.Decode.{Decoded, decode}
 use Rattle.vrc6_banking.specs.declared.banking.Settings.{Settings}
 use Rattle.vrc6_banking.specs.Banking.{is_b}
 use Rattle.vrc6_calls.specs.declared.Call.{Call}
@@ -72,11 +72,11 @@ module _ (g : Registers) (eight : length g.chr ≡ 8) (v : ℕ) where
   taken_held (Chr i) (Chr j) h =
       set_at g.chr i (some v) none j (omega arith) ∙ some_or (eqb i j) v (get_or g.chr j none)
 
-  after_held : (k : Register) (b : BankRegister) → Eleven b → last_held (registers_after k v g) b ≡ or_else (given_to b k v) (last_held g b)
-  after_held Nothing b h = refl
-  after_held (OfBank r) b h = taken_held r b h
-  after_held (OfAudio s) b h = refl
-  after_held (OfIrq i) b h = refl
+  after_held : (k : Decoded) (b : BankRegister) → Eleven b → last_held (registers_after k v g) b ≡ or_else (given_to b k v) (last_held g b)
+  after_held None b h = refl
+  after_held (Some (OfBank r)) b h = taken_held r b h
+  after_held (Some (OfAudio s)) b h = refl
+  after_held (Some (OfIrq i)) b h = refl
 
 module _ (c : Creation) where
   -- one call

@@ -7,9 +7,9 @@ use Rattle.base_shared.specs.Refusals.{unless}
 use Rattle.memory_pages.specs.Pages.{unmapped}
 use Rattle.memory_layout.specs.declared.regions.MemoryLayout.{MemoryLayout}
 use Rattle.memory_tables.specs.Paging.{picture}
+use Rattle.registers.specs.Decode.{Decoded}
 use Rattle.registers.specs.declared.BankRegister.{BankRegister}
 use Rattle.registers.specs.declared.BankRegister.TheVariants.{Prg16, Prg8, Mode, Chr}
-use Rattle.registers.specs.declared.Register.{Register}
 use Rattle.vrc6_slots.proofs.Counts.{mirroring_count, numbers_count}
 use Rattle.vrc6_banking.specs.declared.banking.Banking.{Banking}
 use Rattle.vrc6_banking.specs.Banking.{bank_written}
@@ -55,7 +55,7 @@ done : (r : Rebuild) → ReachesBank r → rebuild_refusal r ≡ 0 → table pic
 done (creation c) t h = ap (λ (n : ℕ). table picture (unless n (new_board c.layout c.settings) zero_board)) h
 done (bank_write x address byte r) t h =
     ap (λ (n : ℕ). table picture (unless n (cpu_written x address byte) x).board) h
-    ∙ ap (λ (d : Register). table picture (register_written d byte x.board)) t
+    ∙ ap (λ (d : Decoded). table picture (register_written d byte x.board)) t
 
 counted : (r : Rebuild) → LentSized r → Sized (banking_used r)
 counted (creation c) t = record { chrs = refl; names = mirroring_count c.settings.mirroring }

@@ -11,9 +11,8 @@ use Rattle.memory_pages.specs.Pages.{found, is_unmapped}
 use Rattle.memory_tables.specs.Paging.{cpu, picture, entry_for}
 use Rattle.memory_access.specs.declared.Peeked.{Peeked}
 use Rattle.memory_access.specs.Access.{byte_at}
-use Rattle.registers.specs.declared.Register.{Register}
-use Rattle.registers.specs.declared.Register.TheVariants.{Nothing, OfBank, OfAudio, OfIrq}
-use Rattle.registers.specs.Decode.{decode}
+use Rattle.registers.specs.declared.Register.TheVariants.{OfBank, OfAudio, OfIrq}
+use Rattle.registers.specs.Decode.{Decoded, decode}
 use Rattle.irq.specs.declared.VrcIrq.{VrcIrq}
 use Rattle.audio.specs.declared.Audio.{Audio}
 use Rattle.vrc6_tables.specs.Tables.{cpu_entries}
@@ -51,11 +50,11 @@ as_rust by_picture x a h = refl
 
 -- ---- every call keeps the setting, and leaves the same beside it
 module _ (setting : Bool) where
-  register : (r : Register) (v : ℕ) (b : Board) → register_written r v (board_with setting b) ≡ board_with setting (register_written r v b)
-  register Nothing v b = refl
-  register (OfBank r) v b = refl
-  register (OfAudio r) v b = refl
-  register (OfIrq r) v b = refl
+  register : (r : Decoded) (v : ℕ) (b : Board) → register_written r v (board_with setting b) ≡ board_with setting (register_written r v b)
+  register None v b = refl
+  register (Some (OfBank r)) v b = refl
+  register (Some (OfAudio r)) v b = refl
+  register (Some (OfIrq r)) v b = refl
 
   -- a write that is refused or not
   write : (n : ℕ) (x y z : State) → z ≡ state_with setting y

@@ -7,16 +7,16 @@ use Prim.Native.Nat.{ℕ, zero, suc, ◌%◌, ◌<◌}
 use native.Mathlib.Omega.{arith}
 use native.Mathlib.Nat.{le_of_suc-le-suc, not-suc-le-zero, mod-eq_of_lt}
 use lib.ListN.{length, set}
+use Rattle.std.specs.Prelude.{Some, None}
 use Rattle.base_shared.specs.Refusals.{first_failing, unless}
 use Rattle.base_steps.specs.Times.{times}
 use Rattle.base_steps.proofs.Iterated.{worked_out, carried}
 use Rattle.memory_tables.specs.Paging.{cpu, picture}
-use Rattle.registers.specs.declared.Register.{Register}
-use Rattle.registers.specs.declared.Register.TheVariants.{Nothing, OfBank, OfAudio, OfIrq}
+use Rattle.registers.specs.declared.Register.TheVariants.{OfBank, OfAudio, OfIrq}
 use Rattle.registers.specs.declared.BankRegister.{BankRegister}
 use Rattle.registers.specs.declared.BankRegister.TheVariants.{Prg16, Prg8, Mode, Chr}
 use Rattle.registers.specs.declared.IrqRegister.TheVariants.{Reload, Control, Acknowledge}
-use Rattle.registers.specs.Decode.{decode}
+use Rattle.registers.specs.Decode.{Decoded, decode}
 use Rattle.registers.proofs.Chr.{chr_law}
 use Rattle.vrc6_banking.specs.declared.banking.Settings.{Settings}
 use Rattle.vrc6_banking.specs.Banking.{bank_written, is_b}
@@ -93,11 +93,11 @@ any_set (o ∷ os) zero v h = refl
 any_set (o ∷ os) (suc i) v h = rw (any_set os i v (le_of_suc-le-suc h)) (or_true (has o))
 
 -- a CHR register's number is below 8
-abbrev pub Known : Register → Type 0
-Known k = (i : ℕ) → k ≡ OfBank (Chr i) → i < 8
+abbrev pub Known : Decoded → Type 0
+Known k = (i : ℕ) → k ≡ Some (OfBank (Chr i)) → i < 8
 
 module _ (c : Creation) (o : Settings) (g : Registers) (eight : length g.chr ≡ 8) where
-  banked : (b : BankRegister) (v : ℕ) → Known (OfBank b) → bank_written b v (banking_by o g) ≡ banking_by o (taken b v g)
+  banked : (b : BankRegister) (v : ℕ) → Known (Some (OfBank b)) → bank_written b v (banking_by o g) ≡ banking_by o (taken b v g)
   banked Prg16 v h = refl
   banked Prg8 v h = refl
   banked Mode v h = refl
@@ -107,15 +107,15 @@ module _ (c : Creation) (o : Settings) (g : Registers) (eight : length g.chr ≡
       let same : i % 8 ≡ i = mod-eq_of_lt low in
       simp (same, map_set, any_set g.chr i v inside, or_true)
 
-  written : (k : Register) (v : ℕ) (t : Timing) (r : VrcIrq) (a : Audio) → Known k
+  written : (k : Decoded) (v : ℕ) (t : Timing) (r : VrcIrq) (a : Audio) → Known k
       → register_written k v (board_of c o g t r a)
       ≡ board_of c o (registers_after k v g) (timing_after k v t) (irq_written_to k v (irq_of t r)) (audio_written_to k v a)
-  written Nothing v t r a h = refl
-  written (OfBank b) v t r a h = rw (banked b v h)
-  written (OfAudio s) v t r a h = refl
-  written (OfIrq Reload) v t r a h = refl
-  written (OfIrq Control) v t r a h = refl
-  written (OfIrq Acknowledge) v t r a h = refl
+  written None v t r a h = refl
+  written (Some (OfBank b)) v t r a h = rw (banked b v h)
+  written (Some (OfAudio s)) v t r a h = refl
+  written (Some (OfIrq Reload)) v t r a h = refl
+  written (Some (OfIrq Control)) v t r a h = refl
+  written (Some (OfIrq Acknowledge)) v t r a h = refl
 
 -- ---- clocks, one after the other
 -- the board changes in its interrupt and its sound alone

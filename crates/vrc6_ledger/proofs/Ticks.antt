@@ -6,14 +6,14 @@ use Prim.Native.Nat.{ℕ, zero, suc, ◌+◌, ◌-◌, ◌≤◌}
 use native.Mathlib.Omega.{arith}
 use lib.Dec.{leb}
 use lib.ListN.{take, drop}
+use Rattle.std.specs.Prelude.{Some, None}
 use Rattle.base_shared.specs.Lists.{Each}
 use Rattle.base_steps.specs.Times.{times, count}
 use Rattle.base_steps.specs.Falls.{fallen as stepFallen, fell, runs}
 use Rattle.base_steps.proofs.Falling.{fall_range_law, add_law, tick_law}
-use Rattle.registers.specs.declared.Register.{Register}
-use Rattle.registers.specs.declared.Register.TheVariants.{Nothing, OfBank, OfAudio, OfIrq}
+use Rattle.registers.specs.declared.Register.TheVariants.{OfBank, OfAudio, OfIrq}
 use Rattle.registers.specs.declared.IrqRegister.TheVariants.{Reload, Control, Acknowledge}
-use Rattle.registers.specs.Decode.{decode}
+use Rattle.registers.specs.Decode.{Decoded, decode}
 use Rattle.vrc6_banking.specs.declared.banking.Settings.{Settings}
 use Rattle.vrc6_banking.specs.Banking.{is_b}
 use Rattle.irq.specs.Timing.{line_step, line_length}
@@ -76,13 +76,13 @@ many (suc n) t h =
     }
 
 -- a register that is neither control nor acknowledge
-still : (r : Register) (v : ℕ) (t : Timing) → QuietRegister r → t ≡ timing_after r v t
-still Nothing v t q = refl
-still (OfBank b) v t q = refl
-still (OfAudio s) v t q = refl
-still (OfIrq Reload) v t q = refl
-still (OfIrq Control) v t q = absurd q
-still (OfIrq Acknowledge) v t q = absurd q
+still : (r : Decoded) (v : ℕ) (t : Timing) → QuietRegister r → t ≡ timing_after r v t
+still None v t q = refl
+still (Some (OfBank b)) v t q = refl
+still (Some (OfAudio s)) v t q = refl
+still (Some (OfIrq Reload)) v t q = refl
+still (Some (OfIrq Control)) v t q = absurd q
+still (Some (OfIrq Acknowledge)) v t q = absurd q
 
 module _ (c : Creation) where
   weighed : (e : Event) (l : Ledger) → Quiet l.origin e → CountsLines l.timing → Weighed l.timing (noted c l e).timing e

@@ -1,13 +1,12 @@
 -- Demand 3: one claim about every list of the board's calls from a newly created board (00, 3; 01, Demand 3's lists and their ledger).
 -- Assumes nothing.
-use Rattle.std.specs.Prelude.{◌≡◌, true, false, List, [], ◌∷◌, ℕ, ◌+◌, ◌-◌, ◌*◌, ◌/◌, ◌≤◌, Float, take, drop}
+use Rattle.std.specs.Prelude.{◌≡◌, true, false, List, [], ◌∷◌, ℕ, ◌+◌, ◌-◌, ◌*◌, ◌/◌, ◌≤◌, Float, take, drop, Some, None}
 use Rattle.base_shared.specs.Lists.{Each}
 use Rattle.memory_tables.specs.Paging.{Side}
 use Rattle.base_floats.specs.Wholes.{float}
-use Rattle.registers.specs.declared.Register.{Register}
-use Rattle.registers.specs.declared.Register.TheVariants.{Nothing, OfBank, OfAudio, OfIrq}
+use Rattle.registers.specs.declared.Register.TheVariants.{OfBank, OfAudio, OfIrq}
 use Rattle.registers.specs.declared.IrqRegister.TheVariants.{Reload, Control, Acknowledge}
-use Rattle.registers.specs.Decode.{decode}
+use Rattle.registers.specs.Decode.{Decoded, decode}
 use Rattle.vrc6_banking.specs.declared.banking.Settings.{Settings}
 use Rattle.vrc6_banking.specs.Banking.{is_b}
 use Rattle.irq.specs.declared.VrcIrq.{VrcIrq}
@@ -41,13 +40,13 @@ tick_count [] = 0
 tick_count (a ∷ rest) = ticks_in a + tick_count rest
 
 -- a register that is not control, $F001, and not acknowledge, $F002 (01, Demand 3's lists and their ledger 7)
-abbrev pub QuietRegister : Register → Type 0
-QuietRegister Nothing = Unit {0}
-QuietRegister (OfBank b) = Unit {0}
-QuietRegister (OfAudio s) = Unit {0}
-QuietRegister (OfIrq Reload) = Unit {0}
-QuietRegister (OfIrq Control) = ⊥
-QuietRegister (OfIrq Acknowledge) = ⊥
+abbrev pub QuietRegister : Decoded → Type 0
+QuietRegister None = Unit {0}
+QuietRegister (Some (OfBank b)) = Unit {0}
+QuietRegister (Some (OfAudio s)) = Unit {0}
+QuietRegister (Some (OfIrq Reload)) = Unit {0}
+QuietRegister (Some (OfIrq Control)) = ⊥
+QuietRegister (Some (OfIrq Acknowledge)) = ⊥
 
 -- a call that is no control, acknowledge or reset (01, Demand 3's lists and their ledger 7)
 abbrev pub Quiet : Settings → Event → Type 0

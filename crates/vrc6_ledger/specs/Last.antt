@@ -1,15 +1,14 @@
 -- The ledger in demand 3's own words: each bank register's last byte or none, and of each byte of the changing buffer the last one written
 -- through a page then showing it, or as supplied (00, 3). Assumes nothing.
-use Rattle.std.specs.Prelude.{◌≡◌, Bool, true, false, cond, ◌&&◌, List, [], ◌∷◌, ℕ, ◌+◌, ◌-◌, ◌%◌, ◌<◌, eqb, length, get_or}
+use Rattle.std.specs.Prelude.{◌≡◌, Bool, true, false, cond, ◌&&◌, List, [], ◌∷◌, ℕ, ◌+◌, ◌-◌, ◌%◌, ◌<◌, eqb, length, get_or, Some, None}
 use Rattle.std.proofs.Math.Option.{Option, none, some}
 use Rattle.memory_pages.specs.declared.page.Page.{Page}
 use Rattle.memory_pages.specs.Pages.{offset, writable}
 use Rattle.memory_tables.specs.Paging.{cpu, picture, entry_for}
-use Rattle.registers.specs.declared.Register.{Register}
-use Rattle.registers.specs.declared.Register.TheVariants.{Nothing, OfBank, OfAudio, OfIrq}
+use Rattle.registers.specs.declared.Register.TheVariants.{OfBank, OfAudio, OfIrq}
 use Rattle.registers.specs.declared.BankRegister.{BankRegister}
 use Rattle.registers.specs.declared.BankRegister.TheVariants.{Prg16, Prg8, Mode, Chr}
-use Rattle.registers.specs.Decode.{decode}
+use Rattle.registers.specs.Decode.{Decoded, decode}
 use Rattle.vrc6_banking.specs.declared.banking.Revision.{Revision}
 use Rattle.vrc6_banking.specs.Banking.{is_b}
 use Rattle.vrc6_calls.specs.declared.Call.{Call}
@@ -61,11 +60,11 @@ last_held r Mode = r.mode
 last_held r (Chr i) = get_or r.chr i none
 
 -- the byte that a write of v to a register gives the bank register b
-abbrev pub given_to : (b : BankRegister) → Register → (v : ℕ) → Option ℕ
-given_to b Nothing v = none
-given_to b (OfBank r) v = cond (same r b) (some v) none
-given_to b (OfAudio r) v = none
-given_to b (OfIrq r) v = none
+abbrev pub given_to : (b : BankRegister) → Decoded → (v : ℕ) → Option ℕ
+given_to b None v = none
+given_to b (Some (OfBank r)) v = cond (same r b) (some v) none
+given_to b (Some (OfAudio r)) v = none
+given_to b (Some (OfIrq r)) v = none
 
 -- the byte that a call writes to it, as the revision decodes
 abbrev pub written_to : Revision → (b : BankRegister) → Event → Option ℕ

@@ -1,19 +1,18 @@
 -- The ledger: what creation and the calls' names and arguments alone say of the page entries, the changing buffer and four interrupt
 -- values. It gets no answer, no later board and no later buffer (01, Demand 3's lists and their ledger 2). Assumes nothing.
-use Rattle.std.specs.Prelude.{Bool, true, false, cond, not, ◌&&◌, ◌||◌, List, [], ◌∷◌, map, ℕ, ◌+◌, ◌-◌, ◌%◌, leb, length, set, replicate}
+use Rattle.std.specs.Prelude.{Bool, true, false, cond, not, ◌&&◌, ◌||◌, List, [], ◌∷◌, map, ℕ, ◌+◌, ◌-◌, ◌%◌, leb, length, set, replicate, Some, None}
 use Rattle.std.proofs.Math.Option.{Option, none, some}
 use Rattle.base_shared.specs.Bits.{bit}
 use Rattle.base_steps.specs.Times.{times}
 use Rattle.memory_pages.specs.declared.page.Page.{Page}
 use Rattle.memory_pages.specs.Pages.{offset, writable}
 use Rattle.memory_tables.specs.Paging.{Side, cpu, picture, entry_for}
-use Rattle.registers.specs.declared.Register.{Register}
-use Rattle.registers.specs.declared.Register.TheVariants.{Nothing, OfBank, OfAudio, OfIrq}
+use Rattle.registers.specs.declared.Register.TheVariants.{OfBank, OfAudio, OfIrq}
 use Rattle.registers.specs.declared.BankRegister.{BankRegister}
 use Rattle.registers.specs.declared.BankRegister.TheVariants.{Prg16, Prg8, Mode, Chr}
 use Rattle.registers.specs.declared.IrqRegister.{IrqRegister}
 use Rattle.registers.specs.declared.IrqRegister.TheVariants.{Reload, Control, Acknowledge}
-use Rattle.registers.specs.Decode.{decode}
+use Rattle.registers.specs.Decode.{Decoded, decode}
 use Rattle.vrc6_banking.specs.declared.banking.Settings.{Settings}
 use Rattle.vrc6_banking.specs.declared.banking.Banking.{Banking}
 use Rattle.vrc6_banking.specs.Banking.{mirroring_number, is_b}
@@ -141,11 +140,11 @@ taken (Chr i) v r = record { prg16 = r.prg16; prg8 = r.prg8; mode = r.mode; chr 
 
 -- the registers after a CPU write that reaches a register; other registers than the bank registers say nothing here
 -- (01, Demand 3's lists and their ledger 3)
-abbrev pub registers_after : Register → (v : ℕ) → Registers → Registers
-registers_after Nothing v r = r
-registers_after (OfBank b) v r = taken b v r
-registers_after (OfAudio s) v r = r
-registers_after (OfIrq i) v r = r
+abbrev pub registers_after : Decoded → (v : ℕ) → Registers → Registers
+registers_after None v r = r
+registers_after (Some (OfBank b)) v r = taken b v r
+registers_after (Some (OfAudio s)) v r = r
+registers_after (Some (OfIrq i)) v r = r
 
 -- $F001 sets after-acknowledge, enabled and cycle from bits 0, 1 and 2, and if enabled prescaler 341; $F002 sets enabled to
 -- after-acknowledge (01, Demand 3's lists and their ledger 3)
@@ -157,11 +156,11 @@ timed Acknowledge v t =
     record { after_acknowledge = t.after_acknowledge; enabled = t.after_acknowledge; cycle = t.cycle; prescaler = t.prescaler }
 
 -- the interrupt values after a CPU write that reaches a register (01, Demand 3's lists and their ledger 3)
-abbrev pub timing_after : Register → (v : ℕ) → Timing → Timing
-timing_after Nothing v t = t
-timing_after (OfBank b) v t = t
-timing_after (OfAudio s) v t = t
-timing_after (OfIrq i) v t = timed i v t
+abbrev pub timing_after : Decoded → (v : ℕ) → Timing → Timing
+timing_after None v t = t
+timing_after (Some (OfBank b)) v t = t
+timing_after (Some (OfAudio s)) v t = t
+timing_after (Some (OfIrq i)) v t = timed i v t
 
 -- the prescaler falls by 3, and at 0 or less gains 341 (01, Demand 3's lists and their ledger 4)
 abbrev pub noted_fallen : (prescaler : ℕ) → ℕ

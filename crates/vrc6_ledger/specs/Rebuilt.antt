@@ -1,6 +1,6 @@
 -- What a rebuild of all entries leaves at $2000 and at $3000, of every board that a host may lend (02, change 3; 01, Banks and decode).
 -- Assumes nothing.
-use Rattle.std.specs.Prelude.{◌≡◌, ℕ, ◌+◌, ◌≤◌, ◌<◌, get_or}
+use Rattle.std.specs.Prelude.{◌≡◌, ℕ, ◌+◌, ◌≤◌, ◌<◌, get_or, Some}
 use Rattle.memory_pages.specs.Pages.{unmapped}
 use Rattle.memory_layout.specs.declared.regions.MemoryLayout.{MemoryLayout}
 use Rattle.memory_tables.specs.Paging.{picture}
@@ -43,7 +43,7 @@ banking_used (bank_write x address byte r) = bank_written r byte x.board.banking
 -- the address of a write reaches the bank register (01, Banks and decode 1)
 abbrev pub ReachesBank : Rebuild → Type 0
 ReachesBank (creation c) = Unit {0}
-ReachesBank (bank_write x address byte r) = decode x.board.banking.revision_b address ≡ OfBank r
+ReachesBank (bank_write x address byte r) = decode x.board.banking.revision_b address ≡ Some (OfBank r)
 
 -- the lent board has as many registers and numbers as its type says; creation is lent none (01, Records 4)
 abbrev pub LentSized : Rebuild → Type 0

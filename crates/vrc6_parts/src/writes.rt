@@ -57,8 +57,7 @@ pub fn reached(revision_b: bool, addr: u16) -> Option<Part>
     if addr < 0x8000 {
         return None;
     }
-    match decode(revision_b, addr) {
-        Register::Nothing => None,
+    match decode(revision_b, addr)? {
         Register::OfBank(_) => Some(Part::Banks),
         Register::OfAudio(_) => Some(Part::Sound),
         Register::OfIrq(_) => Some(Part::Interrupt),
