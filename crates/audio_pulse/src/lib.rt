@@ -6,9 +6,12 @@ ghost use Rattle.base_floats.specs.Wholes.{float};
 ghost use Rattle.audio_pulse.specs.Pulses.{pulse_at, pulse_written, pulse_shifted, pulse_clocked, pulse_level};
 ghost use Rattle.audio_pulse.specs.Required.{PulseIn};
 
-use audio_shared::{high_bits, low_byte};
+use audio_shared::{high_bits, low_byte, period};
+use base_shared::bit;
 use registers::ChannelRegister;
 
+// The Rust's `Pulse`, field by field, which C and scripts name: so it and `Saw` do not share a struct of the frequency, timer and shift, and
+// what each sets there stays one line.
 #[repr(C)]
 #[derive(Clone, Copy, Default)]
 pub struct Pulse {
@@ -48,12 +51,12 @@ impl Pulse {
             ChannelRegister::Volume => {
                 self.volume = val % 16;
                 self.duty_cycle = val / 16 % 8;
-                self.ignore_duty = val / 128 % 2 == 1;
+                self.ignore_duty = bit(val, 7);
             }
             ChannelRegister::FrequencyLow => self.frequency = low_byte(self.frequency, val),
             ChannelRegister::FrequencyHigh => {
                 self.frequency = high_bits(self.frequency, val);
-                self.enabled = val / 128 % 2 == 1;
+                self.enabled = bit(val, 7);
                 if !self.enabled {
                     self.step = 0;
                 }
@@ -73,6 +76,7 @@ impl Pulse {
 
     // The Rust's `volume`, whose name a field has here. Nested tests run faster than joined ones: while the sound is
     // steady their outcome stays the same.
+    #[tactic(auto, unfolding(crate::specs::Pulses::pulse_level))]
     pub fn level(self) -> f32
         ensures { result ≡ float (pulse_level self) }
     {
@@ -96,7 +100,7 @@ impl Pulse {
             self.timer -= 1;
             if self.timer == 0 {
                 self.step = (self.step + 1) % 16;
-                self.timer = (self.frequency >> self.freq_shift) + 1;
+                self.timer = period(self.frequency, self.freq_shift);
             }
         }
         self

@@ -6,9 +6,12 @@ ghost use Rattle.base_floats.specs.Wholes.{float};
 ghost use Rattle.audio_saw.specs.Saws.{saw_at, saw_written, saw_shifted, saw_clocked, saw_level, accumulated};
 ghost use Rattle.audio_saw.specs.Required.{SawIn};
 
-use audio_shared::{high_bits, low_byte};
+use audio_shared::{high_bits, low_byte, period};
+use base_shared::bit;
 use registers::ChannelRegister;
 
+// The Rust's `Saw`, field by field, which C and scripts name: so it and `Pulse` do not share a struct of the frequency, timer and shift, and
+// what each sets there stays one line.
 #[repr(C)]
 #[derive(Clone, Copy, Default)]
 pub struct Saw {
@@ -62,7 +65,7 @@ impl Saw {
             ChannelRegister::FrequencyLow => self.frequency = low_byte(self.frequency, val),
             ChannelRegister::FrequencyHigh => {
                 self.frequency = high_bits(self.frequency, val);
-                self.enabled = val / 128 % 2 == 1;
+                self.enabled = bit(val, 7);
                 if !self.enabled {
                     self.accum = 0;
                     self.step = 0;
@@ -82,6 +85,7 @@ impl Saw {
     }
 
     // The Rust's `volume`: the accumulator's high five bits.
+    #[tactic(auto, unfolding(crate::specs::Saws::saw_level))]
     pub fn level(self) -> f32
         ensures { result ≡ float (saw_level self) }
     {
@@ -101,7 +105,7 @@ impl Saw {
             self.timer -= 1;
             if self.timer == 0 {
                 self.step = (self.step + 1) % 14;
-                self.timer = (self.frequency >> self.freq_shift) + 1;
+                self.timer = period(self.frequency, self.freq_shift);
                 self.accum = accumulated(self.step, self.accum, self.accum_rate);
             }
         }

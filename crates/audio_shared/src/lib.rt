@@ -2,8 +2,8 @@
 // a trait, since nothing here takes a channel of either kind.
 #![tactic(auto)]
 
-ghost use Rattle.std.specs.Prelude.{◌≡◌};
-ghost use Rattle.audio_shared.specs.Channels.{low_byte, high_bits};
+ghost use Rattle.std.specs.Prelude.{◌≡◌, ◌≤◌};
+ghost use Rattle.audio_shared.specs.Channels.{high_bits, low_byte, period_of};
 
 // The frequency with another low byte.
 pub fn low_byte(frequency: u16, val: u8) -> u16
@@ -17,4 +17,13 @@ pub fn high_bits(frequency: u16, val: u8) -> u16
     ensures { result ≡ high_bits frequency val }
 {
     (val as u16) % 16 * 256 + frequency % 256
+}
+
+// What a timer that runs out starts again from: the frequency, shifted right, and 1.
+#[inline(always)]
+pub fn period(frequency: u16, shift: u8) -> u16
+    requires { (frequency ≤ 4095) × (shift ≤ 8) }
+    ensures { result ≡ period_of frequency shift }
+{
+    (frequency >> shift) + 1
 }

@@ -7,6 +7,7 @@ ghost use Rattle.irq.specs.Interrupt.{irq_tick, irq_reload, irq_acknowledged, ir
 ghost use Rattle.irq.specs.Timing.{prescaler_fallen, clock_answer, control_written, irq_held, forecast_answer};
 ghost use Rattle.irq.specs.Writes.{irq_written, irq_written_to};
 
+use base_shared::bit;
 use registers::{IrqRegister, Register, decode};
 
 // What a clock takes from the prescaler.
@@ -64,9 +65,9 @@ impl VrcIrq {
     pub fn write_control(mut self, val: u8) -> Self
         ensures { result ≡ control_written val self }
     {
-        self.enabled_after_ack = val % 2 == 1;
-        self.enabled = val / 2 % 2 == 1;
-        self.cycle_mode = val / 4 % 2 == 1;
+        self.enabled_after_ack = bit(val, 0);
+        self.enabled = bit(val, 1);
+        self.cycle_mode = bit(val, 2);
         self.irq_pending = false;
         if self.enabled {
             self.counter = self.reload;

@@ -9,6 +9,9 @@ use Rattle.audio.specs.declared.Audio.{Audio}
 use Rattle.audio.specs.Sound.{summed}
 use Rattle.audio_channels.specs.Ranges.{pulse_in_range, saw_in_range, channels_in_range}
 use Rattle.audio_channels.proofs.Ranged.{three, pulse_in, saw_in}
+use Rattle.audio.specs.Ranges.{audio_in_range}
+use Rattle.audio.specs.Required.{AudioIn}
+use Rattle.audio.proofs.Ranged.{in_range_law}
 use Rattle.audio.proofs.Steady.{audio_falls, sum_in_range}
 use Rattle.irq.specs.Timing.{clock_answer}
 use Rattle.audio.specs.Sound.{audio_clocked, with_timers}
@@ -17,6 +20,10 @@ use Rattle.vrc6_engine.specs.Engine.{engine_ok, engine_clock, only_timers}
 -- where of the sound a clock moves the timers only
 moved : (q : VrcIrq) (a : Audio) (t u v : ℕ) → engine_ok q a ≡ true → audio_clocked a ≡ with_timers a t u v → engine_clock q a ≡ Ok (only_timers q a t u v)
 moved q a t u v e m = rw e (λ i. Ok (record { engine = record { irq = (clock_answer q).irq; audio = m i }; ticked = (clock_answer q).ticked }))
+
+-- what a clock requires of the sound
+pub clock_in : (q : VrcIrq) (a : Audio) → engine_ok q a ≡ true → AudioIn a
+clock_in q a h = (in_range_law a).0 (and_right (irq_held q) (audio_in_range a) h)
 
 or_left : (a b : Bool) → (a || b) ≡ false → a ≡ false
 or_left true b h = h

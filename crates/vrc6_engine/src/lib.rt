@@ -1,7 +1,8 @@
 // Interrupt and sound without the board around them: what clock, reset, level and forecast do with both.
 #![tactic(auto)]
 
-ghost use Rattle.std.specs.Prelude.{◌≡◌};
+ghost use Rattle.std.specs.Prelude.{◌≡◌, MatchResult, false, true};
+ghost use Rattle.base_shared.specs.declared.Refusal.TheVariants.{Range};
 ghost use Rattle.vrc6_engine.specs.Engine.{engine_clock, engine_forecast, engine_level, engine_ok, engine_reset};
 
 use audio::{Audio, Level};
@@ -32,46 +33,53 @@ impl Engine {
         self.irq.in_range() & self.audio.in_range()
     }
 
-    // Interrupt, then sound.
+    // Why a call on these values is refused, if it is.
     #[inline(always)]
-    pub fn clock(self) -> Result<EngineClocked, Refusal>
-        ensures { result ≡ engine_clock self.irq self.audio }
+    fn check(self) -> Result<(), Refusal>
+        ensures { MatchResult result (λ done. engine_ok self.irq self.audio ≡ true)
+            (λ refusal. (refusal ≡ Range) × (engine_ok self.irq self.audio ≡ false)) }
     {
         if self.in_range() {
-            let next = self.irq.clock();
-            Ok(EngineClocked {
-                engine: Engine {
-                    irq: next.irq,
-                    audio: self.audio.clock(),
-                },
-                ticked: next.ticked,
-            })
+            Ok(())
         } else {
             Err(Refusal::Range)
         }
+    }
+
+    // Interrupt, then sound.
+    #[inline(always)]
+    #[tactic(auto, using(crate::proofs::Timed::clock_in))]
+    pub fn clock(self) -> Result<EngineClocked, Refusal>
+        ensures { result ≡ engine_clock self.irq self.audio }
+    {
+        self.check()?;
+        let next = self.irq.clock();
+        Ok(EngineClocked {
+            engine: Engine {
+                irq: next.irq,
+                audio: self.audio.clock(),
+            },
+            ticked: next.ticked,
+        })
     }
 
     // The interrupt is cleared, of the sound halt only.
     pub fn reset(self) -> Result<Engine, Refusal>
         ensures { result ≡ engine_reset self.irq self.audio }
     {
-        if self.in_range() {
-            Ok(Engine {
-                irq: self.irq.reset(),
-                audio: self.audio.reset(),
-            })
-        } else {
-            Err(Refusal::Range)
-        }
+        self.check()?;
+        Ok(Engine {
+            irq: self.irq.reset(),
+            audio: self.audio.reset(),
+        })
     }
 
     pub fn level(self) -> Level
         ensures { result ≡ engine_level self.irq self.audio }
     {
-        if self.in_range() {
-            self.audio.named_output()
-        } else {
-            Level::Refused(Refusal::Range)
+        match self.check() {
+            Ok(()) => self.audio.named_output(),
+            Err(refusal) => Level::Refused(refusal),
         }
     }
 
@@ -79,10 +87,7 @@ impl Engine {
     pub fn forecast(self) -> Result<Option<u32>, Refusal>
         ensures { result ≡ engine_forecast self.irq self.audio }
     {
-        if self.in_range() {
-            Ok(self.irq.forecast())
-        } else {
-            Err(Refusal::Range)
-        }
+        self.check()?;
+        Ok(self.irq.forecast())
     }
 }

@@ -37,11 +37,7 @@ impl Engine {
         if (pulse1 == 0) | (pulse2 == 0) | (saw == 0) | audio.halt {
             return None;
         }
-        let sum = base_floats::mixed(
-            audio.pulse1.level(),
-            audio.pulse2.level(),
-            audio.saw.level(),
-        );
+        let sum = audio.summed();
         if base_floats::same(audio.out, sum)
             & self.irq.in_range()
             & audio_channels::channels_in_range(audio.pulse1, audio.pulse2, audio.saw)
