@@ -1,4 +1,4 @@
-// Prints what cartridge files say, each under its name. An argument behind --rows names rows of headers, which are played
+// Prints what cartridge files say, each under its name. --rows FILE plays that file's rows of headers
 // (oracle/FORMAT.md).
 #![tactic(auto)]
 
@@ -15,16 +15,15 @@ fn main(rt: HostRuntime) {
     if Arguments::new(&rt).next().is_none() {
         let _ = eprintln!(rt; "usage: cartridges FILE.nes ...");
     }
-    let mut rows = false;
-    for argument in Arguments::new(&rt) {
-        let name = argument.bytes();
-        if rows {
-            play_file(&rt, name);
-            rows = false;
-        } else if same_name(b"--rows", name) {
-            rows = true;
+    let mut arguments = Arguments::new(&rt);
+    while let Some(argument) = arguments.next() {
+        if same_name(b"--rows", argument.bytes()) {
+            let Some(file) = arguments.next() else {
+                return;
+            };
+            play_file(&rt, file.bytes());
         } else {
-            print_file(&rt, name);
+            print_file(&rt, argument.bytes());
         }
     }
 }

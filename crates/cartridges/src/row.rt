@@ -1,18 +1,17 @@
 // A row: the first bytes of a file, how many bytes it has, and what `read_header` must answer (oracle/FORMAT.md).
-ghost use Rattle.std.specs.Prelude.{◌≤◌, IfSome};
-
 use base_shared::Refusal;
 use cartridge::Cartridge;
 use memory_layout::MemoryLayout;
+use std::alloc::{AllocError, Global};
 use std::fmt;
 use std::fmt::{Display, Formatter};
-use text_words::names::{Words, place_in};
-use text_words::number::{NumberError, in_base};
+use text_words::names::{Words, same_name};
+use text_words::number::in_base;
 use text_words::only_word;
-use vrc6_banking::banking::{Mirroring, Revision};
+use vrc6_words::{mirroring_of, revision_of};
 
 // The longest file of a row.
-pub const LONGEST_FILE: usize = 600000;
+const LONGEST_FILE: u32 = 600000;
 
 // The largest number of an answer.
 const LARGEST: u32 = 0xFFFF_FFFE;
@@ -45,7 +44,15 @@ pub struct Row {
     pub head: [u8; 16],
     pub length: usize,
     pub answer: Result<Cartridge, Refusal>,
-    ghost fits: { length ≤ 600000 },
+}
+
+impl Row {
+    // The file that the row tells of.
+    pub(crate) fn file(&self, alloc: Global) -> Result<Vec<u8>, AllocError> {
+        let mut file = Vec::from_slice(alloc, &self.head)?;
+        file.resize(self.length, 0)?;
+        Ok(file)
+    }
 }
 
 // The bytes of a word, two digits each; - stands for none.
@@ -63,10 +70,8 @@ fn head_of(word: &[u8]) -> Option<[u8; 16]> {
     Some(head)
 }
 
-fn length_of(word: &[u8]) -> Option<usize>
-    ensures { IfSome result (λ length. length ≤ 600000) }
-{
-    let length = in_base(word, 10, LONGEST_FILE as u32).ok()?;
+fn length_of(word: &[u8]) -> Option<usize> {
+    let length = in_base(word, 10, LONGEST_FILE).ok()?;
     Some(length as usize)
 }
 
@@ -74,33 +79,31 @@ fn number_of(word: &[u8]) -> Option<u32> {
     in_base(word, 10, LARGEST).ok()
 }
 
-fn mirroring_of(word: &[u8]) -> Option<Mirroring> {
-    let mirrorings = [
-        Mirroring::Vertical,
-        Mirroring::Horizontal,
-        Mirroring::SingleScreenA,
-        Mirroring::SingleScreenB,
-        Mirroring::FourScreen,
-    ];
-    mirrorings.get(place_in(b"V H A B 4", word)?).copied()
-}
-
-fn revision_of(word: &[u8]) -> Option<Revision> {
-    [Revision::A, Revision::B]
-        .get(place_in(b"A B", word)?)
-        .copied()
-}
-
 fn refusal_of(word: &[u8]) -> Option<Refusal> {
-    let refusals = [Refusal::NoHeader, Refusal::Mapper, Refusal::FileLength];
-    refusals.get(place_in(b"5 6 7", word)?).copied()
+    match word {
+        b"5" => Some(Refusal::NoHeader),
+        b"6" => Some(Refusal::Mapper),
+        b"7" => Some(Refusal::FileLength),
+        _ => None,
+    }
+}
+
+// Whether CHR is RAM.
+fn chr_writable_of(word: &[u8]) -> Option<bool> {
+    if same_name(b"ram", word) {
+        Some(true)
+    } else if same_name(b"rom", word) {
+        Some(false)
+    } else {
+        None
+    }
 }
 
 fn layout_of(words: &mut Words) -> Option<MemoryLayout> {
     Some(MemoryLayout {
         prg_rom: number_of(words.next()?)?,
         chr: number_of(words.next()?)?,
-        chr_writable: place_in(b"rom ram", words.next()?)? == 1,
+        chr_writable: chr_writable_of(words.next()?)?,
         prg_ram: number_of(words.next()?)?,
         ciram: number_of(words.next()?)?,
     })

@@ -2,7 +2,7 @@
 use crate::faults::{Told, WordFault};
 use crate::row::Row;
 use cartridge::Cartridge;
-use cartridge_files::{LONGEST, read_file};
+use cartridge_files::read_file;
 use cartridge_header::read_header;
 use memory_layout::MemoryLayout;
 use scene_cells::columns::Column;
@@ -31,17 +31,16 @@ pub(crate) fn unfiled() -> Cartridge {
     }
 }
 
-fn cartridge_at(rt: &impl Files, path: &[u8]) -> Result<Cartridge, WordFault> {
-    let mut bytes = [0u8; LONGEST];
-    match read_file(rt, path, &mut bytes) {
-        Ok(file) => read_header(file).map_err(WordFault::Refused),
+fn cartridge_at(rt: &(impl Files + AllocGlobal), path: &[u8]) -> Result<Cartridge, WordFault> {
+    match read_file(rt, path) {
+        Ok(file) => read_header(&file).map_err(WordFault::Refused),
         Err(_) => Err(WordFault::Unread),
     }
 }
 
 // The file that a cell of a sheet names.
 fn cartridge_named(
-    rt: &impl Files,
+    rt: &(impl Files + AllocGlobal),
     sheet: &[u8],
     cell: &[u8],
     quoted: bool,
@@ -54,7 +53,7 @@ fn cartridge_named(
 
 // What the row's file says, if it names one. A relative name is taken from the sheet's folder.
 pub(crate) fn read_source(
-    rt: &impl Files,
+    rt: &(impl Files + AllocGlobal),
     sheet: &[u8],
     row: Row,
     out: &mut Output,
