@@ -1,12 +1,12 @@
 -- A text cut at its first byte that a test takes, and its first word. Assumes nothing.
-use Rattle.std.proofs.Common.{◌≡◌, ℕ, suc, ◌+◌, ◌-◌, ◌≤◌, Bool, true, false, cond, not, List, [], ◌∷◌, length, take, drop, Option, Some, None, refl, sym, ap, ◌∙◌, arith, unwrap_or, ltb, length-drop, length-take-le, eq-eqb}
+use Rattle.std.proofs.Common.{◌≡◌, ℕ, suc, ◌+◌, ◌-◌, ◌≤◌, Bool, true, false, cond, not, List, [], ◌∷◌, length, take, drop, Option, Some, None, refl, ap, ◌∙◌, arith, unwrap_or, ltb, length-drop, length-take-le}
 use Rattle.std.proofs.lemmas.Bool.{ltb-false}
 use Rattle.std.proofs.lemmas.List.Sums.{prefix_len-le-length}
 use Rattle.std.specs.Bool.{beq}
 use Rattle.std.specs.List.{position, position_or_len}
 use Rattle.text_words.specs.declared.Word.{Word}
 use Rattle.text_words.specs.Found.{Found}
-use Rattle.text_words.specs.Words.{from_taken, from_word, is_blank, is_empty, past_word, word_of}
+use Rattle.text_words.specs.Words.{from_taken, from_word, is_blank, past_word, word_of}
 
 module _ (test : ℕ → Bool) where
   cut : (s : List ℕ) → drop (position_or_len test s) s ≡ from_taken test s
@@ -22,21 +22,17 @@ module _ (test : ℕ → Bool) where
   pub taken_le : (s : List ℕ) → length (from_taken test s) ≤ length s
   taken_le s = omega (arith, ap length (cut s), length-drop (position_or_len test s) s)
 
-  -- the place of the first byte that the test takes, or the text's length
-  pub record Place (s : List ℕ) (n : ℕ) : Type 0 where
-    pub bound : n ≤ length s
-    pub cut : drop n s ≡ from_taken test s
-
-  pub place : (s : List ℕ) (r : Option ℕ) (n : ℕ) → r ≡ position test s → n ≡ unwrap_or r (length s) → Place s n
-  place s r n e f = split (ltb (position_or_len test s) (length s)) refl
+  -- a text from the first byte on that the test takes, by that byte's place, or the text's length
+  pub placed : (s : List ℕ) (r : Option ℕ) (n : ℕ) → r ≡ position test s → n ≡ unwrap_or r (length s) → drop n s ≡ from_taken test s
+  placed s r n e f = split (ltb (position_or_len test s) (length s)) refl
     where
       le : position_or_len test s ≤ length s
       le = prefix_len-le-length (λ b. not (test b)) s
 
-      at_place : n ≡ position_or_len test s → Place s n
-      at_place g = record { bound = omega (arith, le, g); cut = ap (λ i. drop i s) g ∙ cut s }
+      at_place : n ≡ position_or_len test s → drop n s ≡ from_taken test s
+      at_place g = ap (λ i. drop i s) g ∙ cut s
 
-      split : (t : Bool) → ltb (position_or_len test s) (length s) ≡ t → Place s n
+      split : (t : Bool) → ltb (position_or_len test s) (length s) ≡ t → drop n s ≡ from_taken test s
       split true h = at_place (f ∙ ap (λ o. unwrap_or o (length s)) (e ∙ ap (λ t. cond t (Some (position_or_len test s)) None) h))
       split false h =
           let all : length s ≤ position_or_len test s = ltb-false (position_or_len test s) (length s) h in
@@ -50,9 +46,6 @@ front s rest n h e = let k : n ≡ length s - length rest = omega (arith, h, ap 
 module _ (text s : List ℕ) (n : ℕ) (e : s ≡ from_word text) (bound : n ≤ length s) (cut_at : drop n s ≡ past_word s) where
   word : take n s ≡ word_of (from_word text)
   word = front s (past_word s) n bound cut_at ∙ ap word_of e
-
-  pub no_word : length (take n s) ≡ 0 → is_empty text ≡ true
-  no_word z = eq-eqb (length (word_of (from_word text))) 0 (sym (ap length word) ∙ z)
 
   pub one_word : (w : Word) → w.bytes.now ≡ take n s → w.rest.now ≡ drop n s → (length w.bytes.now ≡ 0 → ⊥) → Found text w
   one_word w f g some = record {

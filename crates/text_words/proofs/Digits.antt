@@ -3,6 +3,7 @@ use Rattle.std.proofs.Common.{◌≡◌, ℕ, suc, ◌+◌, ◌-◌, ◌*◌, �
 use mathlib.Core.List.{foldl-append}
 use native.Mathlib.Nat.{mul-le-mul_left}
 use borrow.Author.Tests.{leb-true, leb-false, lt-leb, le-leb}
+use Rattle.std.proofs.lemmas.Bool.{ltb-true}
 use lib.Dec.{ltb, leb}
 use lib.Seq.{take-suc, take_all, split_at}
 use Rattle.base_shared.proofs.Tests.{both, tested}
@@ -50,6 +51,15 @@ is_below base d (Some x) e = split (ltb x base) e
     split true e = cc
     split false e = absurd (cc)
 
+-- a base with a digit is not 0
+some_base : (base d : ℕ) (o : Option ℕ) → Some d ≡ below base o → 1 ≤ base
+some_base base d None e = absurd (cc)
+some_base base d (Some x) e = split (ltb x base) refl e
+  where
+    split : (t : Bool) → ltb x base ≡ t → Some d ≡ cond t (Some x) None → 1 ≤ base
+    split true h e = omega (arith, ltb-true x base h)
+    split false h e = absurd (cc)
+
 -- the first i bytes are digits, and v is their value, or the largest number
 pub record Read (base : ℕ) (word : List ℕ) (i v : ℕ) : Type 0 where
   pub digits : are_digits base (take i word) ≡ true
@@ -59,9 +69,10 @@ module _ (base : ℕ) (word : List ℕ) (i : ℕ) (k : i < length word) where
   split : take (i + 1) word ≡ take i word ++ (get_or word i 0 ∷ [])
   split = ap (λ (j : ℕ). take j word) (add-one i) ∙ take-suc word i 0 k
 
-  pub more : (v d : ℕ) → 1 ≤ base → Read base word i v → Some d ≡ below base (digit_of (get_or word i 0))
+  pub more : (v d : ℕ) → Read base word i v → Some d ≡ below base (digit_of (get_or word i 0))
       → Read base word (i + 1) (min (min (v * base) (2 ^ 64 - 1) + d) (2 ^ 64 - 1))
-  more v d h r e =
+  more v d r e =
+      let h : 1 ≤ base = some_base base d (digit_of (get_or word i 0)) e in
       let last : are_digits base (get_or word i 0 ∷ []) ≡ true = both (ap is_some (sym e)) refl in
       record {
         digits = ap (are_digits base) split ∙ digits_append base (take i word) (get_or word i 0 ∷ []) ∙ both r.digits last;

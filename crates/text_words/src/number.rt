@@ -19,9 +19,8 @@ fn digit(byte: u8, base: u64) -> Option<u64>
         .filter(|d| *d < base)
 }
 
-// The number that the digits of a word make in a base.
+// The number that the digits of a word make in a base. Above 16 there are no more digits than at 16, and at 0 there are none.
 pub fn in_base(word: &[u8], base: u64, limit: u32) -> Result<u32, NumberError>
-    requires { (1 ≤ base) × (base ≤ 16) }
     ensures value { result ≡ number_of base limit word.now }
     ensures limit { IfOk result (λ n. n ≤ limit) }
 {

@@ -1,12 +1,8 @@
 -- `next_word` meets its contract. Assumes nothing.
-use Rattle.std.proofs.Common.{length, ap, sym, ◌∙◌}
-use Rattle.std.proofs.lemmas.Bool.{eqb-true, eqb-false}
-use Rattle.text_words.proofs.Cuts.{no_word, one_word}
+use Rattle.std.proofs.Common.{sym, ◌∙◌}
+use Rattle.std.proofs.lemmas.Bool.{eqb-false}
+use Rattle.text_words.proofs.Cuts.{one_word}
 use Rattle.text_words.proofs.next_word.Goals as goal
-
-pub returns-then-is_empty : goal.returns-then-is_empty
-returns-then-is_empty c =
-    no_word c.args.text.now _ _ c.from_first-text.ensures c.before_first.ensures.bound c.before_first.ensures.cut (sym (ap length c.split_at.ensures.front) ∙ eqb-true _ 0 (sym c.is_empty.ensures ∙ c.if-is_empty.true))
 
 pub returns-else-is_empty : goal.returns-else-is_empty
 returns-else-is_empty c =

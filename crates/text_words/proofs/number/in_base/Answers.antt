@@ -11,7 +11,7 @@ pub returns-in_default-clause-value : goal.returns-in_default-clause-value
 returns-in_default-clause-value c = no_digit _ _ _ _ c.loop-byte-test.true (sym c.in_default.ensures)
 
 pub loop-byte-preserved : goal.loop-byte-preserved
-loop-byte-preserved c = rw (c.saturating_add-value.ensures, c.saturating_mul.ensures) (more _ _ _ c.loop-byte-test.true _ _ c.requires.0 c.loop-byte.invariant c.in-Some.ensures)
+loop-byte-preserved c = rw (c.saturating_add-value.ensures, c.saturating_mul.ensures) (more _ _ _ c.loop-byte-test.true _ _ c.loop-byte.invariant c.in-Some.ensures)
 
 pub returns-then-value-from-clause-value : goal.returns-then-value-from-clause-value
 returns-then-value-from-clause-value c =
