@@ -13,7 +13,7 @@ use registers::ChannelRegister;
 // The Rust's `Pulse`, field by field, which C and scripts name: so it and `Saw` do not share a struct of the frequency, timer and shift, and
 // what each sets there stays one line.
 #[repr(C)]
-#[derive(Clone, Copy, Default)]
+#[derive(Clone, Copy, Default, PartialEq, Eq)]
 pub struct Pulse {
     pub enabled: bool,
     pub volume: u8,

@@ -13,7 +13,7 @@ use registers::ChannelRegister;
 // The Rust's `Saw`, field by field, which C and scripts name: so it and `Pulse` do not share a struct of the frequency, timer and shift, and
 // what each sets there stays one line.
 #[repr(C)]
-#[derive(Clone, Copy, Default)]
+#[derive(Clone, Copy, Default, PartialEq, Eq)]
 pub struct Saw {
     pub enabled: bool,
     pub accum: u8,

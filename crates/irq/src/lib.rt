@@ -17,7 +17,7 @@ pub const LINE: u16 = 341;
 
 // In this order it takes ten bytes. A struct of eight is passed as one number, which is slower to take apart.
 #[repr(C)]
-#[derive(Clone, Copy, Default)]
+#[derive(Clone, Copy, Default, PartialEq, Eq)]
 pub struct VrcIrq {
     pub reload: u8,
     pub prescalar_counter: u16,

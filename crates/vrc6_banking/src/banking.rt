@@ -75,7 +75,7 @@ impl Settings {
 }
 
 #[repr(C)]
-#[derive(Clone, Copy, Debug, PartialEq, Eq)]
+#[derive(Clone, Copy, Debug, Default, PartialEq, Eq)]
 pub struct Banking {
     pub banking_mode: u8,
     // The 16 KiB bank at $8000 and the 8 KiB bank at $C000.
@@ -95,27 +95,18 @@ impl Banking {
         ensures { result ≡ first_banking settings }
     {
         Self {
-            banking_mode: 0,
-            prg_banks: [0; 2],
-            chr: [0; 8],
             mirroring: u8::from(settings.mirroring),
             nt_banks: mirroring_numbers(settings.mirroring),
             revision_b: settings.revision == Revision::B,
+            ..Self::zero()
         }
     }
 
-    // All values zero, as in the board of a refused create. No Default: that would be taken for a fresh board's.
+    // All values zero, as in the board of a refused create.
     pub fn zero() -> Self
         ensures { result ≡ zero_banking }
     {
-        Self {
-            banking_mode: 0,
-            prg_banks: [0; 2],
-            chr: [0; 8],
-            mirroring: 0,
-            nt_banks: [0; 4],
-            revision_b: false,
-        }
+        Self::default()
     }
 
     // Whether each value is in its range.
