@@ -9,6 +9,7 @@ use audio_saw::Saw;
 
 // Whether each value of the three channels is in its range; every accumulator is. The tests use &, which takes no
 // branch, and equal limits stand side by side, so that the compiler can test them as one.
+#[tactic(auto, using(crate::proofs::Joined::channels_joined))]
 pub fn channels_in_range(p: Pulse, q: Pulse, s: Saw) -> bool
     ensures { result ≡ channels_in_range p q s }
 {

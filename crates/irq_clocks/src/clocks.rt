@@ -14,6 +14,7 @@ pub struct Lines {
 }
 
 // The lines of n clocks that count them. A prescaler above a line's length only falls at first.
+#[tactic(auto, using(crate::proofs::Gains::by_quotient, crate::proofs::Gains::none_ended, crate::proofs::Gains::gone))]
 pub fn lines_gone(step: u16, line: u16, prescaler: u16, n: u32) -> Lines
     requires pace { Pace step line }
     requires n_bound { step * n + 65535 < 2 ^ 32 }
@@ -48,7 +49,9 @@ fn gained(irq: VrcIrq, ticks: u32, prescaler: u16) -> VrcIrq
     }
 }
 
-// The counter after n clocks, none of which sets pending.
+// The counter after n clocks, none of which sets pending. Step and line come one by one, not as a struct: the one caller gives two
+// constants.
+#[tactic(auto, using(crate::proofs::Runs::idle_law, crate::proofs::Gains::cycles_low, crate::proofs::Gains::by_cycles, crate::proofs::Gains::few, crate::proofs::Gains::lines_low, crate::proofs::Gains::by_lines))]
 pub fn clock_times(irq: VrcIrq, step: u16, line: u16, n: u32) -> VrcIrq
     requires pace { Pace step line }
     requires unset { Unset step line n irq }

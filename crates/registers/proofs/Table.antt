@@ -20,16 +20,13 @@ module _ (r : Bool) (a row line : ℕ) (e : a / 4096 ≡ row) (l : (line ≡ lin
   unfolding decode
   found = rw (← e, l.0)
 
-  pub single : (k : ℕ) (x : Option Register) → line ≡ k → x ≡ register_at row k → x ≡ decode r a
-  single k x h g = g ∙ ap (register_at row) (sym h) ∙ found
-
   -- the first three lines of a row, and the last; or all four
   pub three : (f : ℕ → Option Register) → f 0 ≡ register_at row 0 → f 1 ≡ register_at row 1 → f 2 ≡ register_at row 2 → line < 3
       → f line ≡ decode r a
   three f x y z h = by_three (λ n. f n ≡ register_at row n) x y z line h ∙ found
 
   pub fourth : (x : Option Register) → x ≡ register_at row 3 → 3 ≤ line → x ≡ decode r a
-  fourth x g h = single 3 x (omega (arith, l.1)) g
+  fourth x g h = let last : line ≡ 3 = omega (arith, l.1) in g ∙ ap (register_at row) (sym last) ∙ found
 
   pub all_four : (f : ℕ → Option Register) → f 0 ≡ register_at row 0 → f 1 ≡ register_at row 1 → f 2 ≡ register_at row 2
       → f 3 ≡ register_at row 3 → f line ≡ decode r a

@@ -94,6 +94,7 @@ fn chr_register(first: u8, line: u16) -> Register
 
 // The register that a write reaches: none below $8000, at $A003 and at $F003. Only lines 0, 1 and 12 to 15 are decoded, so each register
 // repeats through its 4 KiB.
+#[tactic(auto, unfolding(crate::specs::Decode::decode))]
 pub fn decode(revision_b: bool, addr: u16) -> Option<Register>
     ensures { result ≡ decode revision_b addr }
 {
