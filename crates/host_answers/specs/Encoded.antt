@@ -19,7 +19,6 @@ use Rattle.vrc6.specs.Calls.{clock, page_view_refusal}
 use Rattle.host_answers.specs.declared.EncodedLevel.{EncodedLevel}
 use Rattle.host_answers.specs.declared.EncodedForecast.{EncodedForecast}
 use Rattle.host_answers.specs.declared.PageAt.{PageAt}
-use Rattle.host_answers.specs.declared.Numbered.{Numbered}
 
 -- ---- level and forecast, encoded as numbers
 -- a level; refused it is 0.0 and silent, with the refusal's number (01, The form to use in each place 12)
@@ -53,9 +52,9 @@ page_at x address =
 abbrev pub tick_number : (ticked : Bool) → (refusal : ℕ) → ℕ
 tick_number ticked refusal = cond ticked 1 (cond (eqb refusal 0) 0 6)
 
--- a clock, its answer encoded as that number (01, The board's calls 1)
-abbrev pub clock_numbered : Board → Numbered
-clock_numbered b = record { board = (clock b).board; number = tick_number (clock b).ticked (clock b).refusal }
+-- a clock's answer, encoded as that number (01, The board's calls 1)
+abbrev pub clock_number : Board → ℕ
+clock_number b = tick_number (clock b).ticked (clock b).refusal
 
 -- a clock that is not refused, and moves of the sound the timers only, to these
 abbrev pub steady_clocked : Board → Timers → Clocked

@@ -9,25 +9,18 @@ pub mod files;
 ghost use Rattle.std.specs.Prelude.{◌≡◌};
 ghost use Rattle.vrc6_parts.specs.Reads.{by_cpu, by_picture};
 ghost use Rattle.vrc6.specs.Boards.{held_by};
-ghost use Rattle.vrc6.specs.Calls.{byte_read, clock, cpu_write, cpu_write_left, forecast, level, picture_write, picture_write_left, reset, written_at};
-ghost use Rattle.vrc6.specs.Reaches.{Reaches};
-ghost use Rattle.vrc6_parts.specs.declared.writes.Part.TheVariants.{Banks, Interrupt, Sound};
+ghost use Rattle.vrc6.specs.Calls.{byte_read, clock, cpu_write, cpu_write_left, forecast, level, picture_write, picture_write_left, reset};
 ghost use Rattle.host_creation.specs.Numbers.{created_by};
-ghost use Rattle.host_answers.specs.Encoded.{clock_numbered, forecast_encoded, level_encoded, page_at, steady_clocked};
+ghost use Rattle.host_answers.specs.Encoded.{clock_number, forecast_encoded, level_encoded, page_at, steady_clocked};
 ghost use Rattle.host_calls.specs.Answers.{byte_answer, tick_answer, tick_decoded};
 
-use host_answers::{
-    EncodedForecast, EncodedLevel, PageAt, clock_numbered, encode_forecast, encode_level, page_at,
-    reset_board, steady_clock,
-};
+use base_shared::answer_number;
+use host_answers::{EncodedForecast, EncodedLevel, PageAt, page_at};
 use host_creation::{NumberedSettings, create_numbered};
 use memory_access::Peeked;
 use memory_layout::MemoryLayout;
 use vrc6::Board;
-use vrc6_engine::Engine;
 use vrc6_engine::steady::Timers;
-use vrc6_parts::reads::{cpu_peek, picture_peek};
-use vrc6_parts::writes::{Part, reached, write_byte};
 
 // Creation by numbers, since no enum crosses. A refused create leaves the zero board. The answer is the refusal's number.
 pub fn vrc6_create(
@@ -49,21 +42,19 @@ pub fn vrc6_create(
 pub fn vrc6_reset(board: &mut Board) -> u8
     ensures { (board.new ≡ (reset board.old).board) × (result ≡ (reset board.old).refusal) }
 {
-    let after = reset_board(*board);
-    *board = after.board;
-    after.refusal
+    answer_number(board.lent_reset())
 }
 
 pub fn vrc6_level(board: &mut Board) -> EncodedLevel
     ensures { (board.new ≡ board.old) × (result ≡ level_encoded (level board.old).level) }
 {
-    encode_level(*board)
+    EncodedLevel::from(board.engine().level())
 }
 
 pub fn vrc6_forecast(board: &mut Board) -> EncodedForecast
     ensures { (board.new ≡ board.old) × (result ≡ forecast_encoded (forecast board.old).forecast) }
 {
-    encode_forecast(*board)
+    EncodedForecast::from(board.engine().forecast())
 }
 
 // A byte, and no register. The answer is the refusal's number.
@@ -78,7 +69,7 @@ pub fn vrc6_picture_write(
         × (changing.new ≡ (picture_write_left (held_by board.old fixed.now changing.old) addr val).changing)
         × (result ≡ (picture_write (held_by board.old fixed.now changing.old) addr val).refusal) }
 {
-    board.picture_write(fixed, changing, addr, val).refusal
+    answer_number(board.lent_picture_write(fixed, changing, addr, val))
 }
 
 // Where the page of a picture address lies, for a host that keeps both buffers.
@@ -86,7 +77,7 @@ pub fn vrc6_page_view(board: &mut Board, fixed: &[u8], changing: &[u8], addr: u1
     ensures { (board.new ≡ board.old)
         × (result ≡ page_at (held_by board.old fixed.now changing.now) addr) }
 {
-    page_at(*board, fixed, changing, addr)
+    page_at(board, fixed, changing, addr)
 }
 
 // bus is the byte that the bus last held: with the setting on, a read where nothing is there hands it back.
@@ -94,48 +85,14 @@ pub fn vrc6_cpu_read(board: &mut Board, fixed: &[u8], changing: &[u8], addr: u16
     ensures { (board.new ≡ board.old)
         × (result ≡ byte_answer (byte_read (by_cpu bus) (held_by board.old fixed.now changing.now) addr)) }
 {
-    // The entry is read where it lies, since `entry_for` takes a copy of the table.
-    let page = board.prg_pages[(addr / 1024 % 64) as usize];
-    let answer = cpu_peek(
-        board.layout,
-        page,
-        board.open_bus,
-        fixed,
-        changing,
-        addr,
-        bus,
-    );
-    Peeked::from(answer)
+    Peeked::from(board.lent_cpu_read(fixed, changing, addr, bus))
 }
 
 pub fn vrc6_picture_read(board: &mut Board, fixed: &[u8], changing: &[u8], addr: u16) -> Peeked
     ensures { (board.new ≡ board.old)
         × (result ≡ byte_answer (byte_read by_picture (held_by board.old fixed.now changing.now) addr)) }
 {
-    let page = board.chr_pages[(addr / 1024 % 16) as usize];
-    Peeked::from(picture_peek(board.layout, page, fixed, changing, addr))
-}
-
-// A bank register takes a byte. Out of line, so that other writes make no room for a second board.
-#[inline(never)]
-fn write_banks(board: &mut Board, addr: u16, val: u8)
-    ensures { Reaches Banks board.old addr → board.new ≡ written_at board.old addr val }
-{
-    *board = board.write_banks(addr, val);
-}
-
-// A register of the sound takes a byte, in place, so that the board is not copied.
-fn write_sound(board: &mut Board, addr: u16, val: u8)
-    ensures { Reaches Sound board.old addr → board.new ≡ written_at board.old addr val }
-{
-    board.audio = board.audio.write_at(board.banking.revision_b, addr, val);
-}
-
-// A register of the interrupt takes a byte, in place likewise.
-fn write_line(board: &mut Board, addr: u16, val: u8)
-    ensures { Reaches Interrupt board.old addr → board.new ≡ written_at board.old addr val }
-{
-    board.irq = board.irq.write_at(board.banking.revision_b, addr, val);
+    Peeked::from(board.lent_picture_read(fixed, changing, addr))
 }
 
 // The byte, then the register. The answer is the refusal's number.
@@ -150,31 +107,7 @@ pub fn vrc6_cpu_write(
         × (changing.new ≡ (cpu_write_left (held_by board.old fixed.now changing.old) addr val).changing)
         × (result ≡ (cpu_write (held_by board.old fixed.now changing.old) addr val).refusal) }
 {
-    let page = board.prg_pages[(addr / 1024 % 64) as usize];
-    let engine = Engine {
-        irq: board.irq,
-        audio: board.audio,
-    };
-    let written = write_byte(
-        board.layout,
-        page,
-        board.banking,
-        engine,
-        fixed,
-        changing,
-        addr,
-        val,
-    );
-    if let Err(refusal) = written {
-        return u8::from(refusal);
-    }
-    match reached(board.banking.revision_b, addr) {
-        Some(Part::Banks) => write_banks(board, addr, val),
-        Some(Part::Sound) => write_sound(board, addr, val),
-        Some(Part::Interrupt) => write_line(board, addr, val),
-        None => {}
-    }
-    0
+    answer_number(board.lent_cpu_write(fixed, changing, addr, val))
 }
 
 // Whether a clock ticked, and the refusal's number.
@@ -199,11 +132,14 @@ fn decoded(number: u8) -> Tick
 fn clock_steady(board: &mut Board, timers: Timers) -> Tick
     ensures { (board.new ≡ (steady_clocked board.old timers).board) × (result ≡ tick_answer (steady_clocked board.old timers)) }
 {
-    let moved = steady_clock(*board, timers);
-    *board = moved.board;
+    let next = board.irq.clock();
+    board.irq = next.irq;
+    board.audio.pulse1.timer = timers.pulse1;
+    board.audio.pulse2.timer = timers.pulse2;
+    board.audio.saw.timer = timers.saw;
     Tick {
-        ticked: moved.ticked,
-        refusal: moved.refusal,
+        ticked: next.ticked,
+        refusal: 0,
     }
 }
 
@@ -211,21 +147,20 @@ fn clock_steady(board: &mut Board, timers: Timers) -> Tick
 pub fn vrc6_clock(board: &mut Board) -> Tick
     ensures { (board.new ≡ (clock board.old).board) × (result ≡ tick_answer (clock board.old)) }
 {
-    let engine = Engine {
-        irq: board.irq,
-        audio: board.audio,
-    };
-    match engine.steady() {
+    match board.engine().steady() {
         Some(timers) => clock_steady(board, timers),
         None => decoded(vrc6_clock_number(board)),
     }
 }
 
-// The same clock without the quick way, answering by one number: 1 for a tick, 6 for a refusal by 3, otherwise 0.
+// The same clock without the quick way, answering by one number, which comes back in a register, where a struct goes through memory: 1 for a
+// tick, 6 for a refusal, which is by 3, otherwise 0.
 pub fn vrc6_clock_number(board: &mut Board) -> u8
-    ensures { (board.new ≡ (clock board.old).board) × (result ≡ (clock_numbered board.old).number) }
+    ensures { (board.new ≡ (clock board.old).board) × (result ≡ clock_number board.old) }
 {
-    let clocked = clock_numbered(*board);
-    *board = clocked.board;
-    clocked.number
+    match board.lent_clock() {
+        Ok(true) => 1,
+        Ok(false) => 0,
+        Err(_) => 6,
+    }
 }

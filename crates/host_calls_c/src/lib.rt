@@ -6,7 +6,7 @@ ghost use Rattle.vrc6_parts.specs.Reads.{by_cpu, by_picture};
 ghost use Rattle.vrc6.specs.Boards.{held_by};
 ghost use Rattle.vrc6.specs.Calls.{byte_read, clock, cpu_write, cpu_write_left, forecast, level, picture_write, picture_write_left, reset};
 ghost use Rattle.host_creation.specs.Numbers.{created_by};
-ghost use Rattle.host_answers.specs.Encoded.{clock_numbered, forecast_encoded, level_encoded, page_at};
+ghost use Rattle.host_answers.specs.Encoded.{clock_number, forecast_encoded, level_encoded, page_at};
 ghost use Rattle.host_calls.specs.Answers.{byte_answer, tick_answer};
 ghost use Rattle.cartridge_header.specs.Ines.{read_header};
 ghost use Rattle.host_cartridge.specs.Encoded.{header_encoded};
@@ -142,7 +142,7 @@ pub extern "C" fn vrc6_clock(board: &mut Board) -> Tick
 // The same clock without the quick way, answering by one number: 1 for a tick, 6 for a refusal by 3, otherwise 0.
 #[unsafe(no_mangle)]
 pub extern "C" fn vrc6_clock_number(board: &mut Board) -> u8
-    ensures { (board.new ≡ (clock board.old).board) × (result ≡ (clock_numbered board.old).number) }
+    ensures { (board.new ≡ (clock board.old).board) × (result ≡ clock_number board.old) }
 {
     host_calls::vrc6_clock_number(board)
 }

@@ -41,13 +41,7 @@ impl From<Refusal> for EncodedCartridge {
 
     fn from(refusal: Refusal) -> EncodedCartridge {
         EncodedCartridge {
-            layout: MemoryLayout {
-                prg_rom: 0,
-                chr: 0,
-                chr_writable: false,
-                prg_ram: 0,
-                ciram: 0,
-            },
+            layout: MemoryLayout::default(),
             mirroring: 0,
             revision: 0,
             prg_start: 0,

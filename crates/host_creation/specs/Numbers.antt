@@ -11,7 +11,7 @@ use Rattle.vrc6_banking.specs.declared.banking.Revision.{Revision}
 use Rattle.vrc6_banking.specs.declared.banking.Revision.TheVariants.{A, B}
 use Rattle.vrc6_banking.specs.declared.banking.Settings.{Settings}
 use Rattle.vrc6_banking.specs.Banking.{mirroring_number, is_b}
-use Rattle.vrc6.specs.declared.board.Created.{Created}
+use Rattle.vrc6.specs.declared.board.Changed.{Changed}
 use Rattle.vrc6.specs.Boards.{zero_board}
 use Rattle.vrc6_parts.specs.Checks.{all_zero}
 use Rattle.vrc6.specs.Calls.{create}
@@ -63,7 +63,7 @@ numbered_refusal l n fixed changing =
     first_failing (layout_checks l (length fixed) (length changing) ++ (settings_named n, 3) ∷ (all_zero (take 1024 fixed), 4) ∷ [])
 
 -- the board that `create` makes of what the numbers name, or refused the all-zero one, and the refusal's number (01, The board's calls 3)
-abbrev pub created_by : MemoryLayout → NumberedSettings → (fixed changing : List ℕ) → Created
+abbrev pub created_by : MemoryLayout → NumberedSettings → (fixed changing : List ℕ) → Changed
 created_by l n fixed changing =
     record {
       board =

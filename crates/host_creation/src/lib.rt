@@ -2,14 +2,12 @@
 #![tactic(auto)]
 
 ghost use Rattle.std.specs.Prelude.{◌≡◌};
-ghost use Rattle.base_shared.specs.Numbers.{number};
-ghost use Rattle.vrc6.specs.Boards.{zero_board};
 ghost use Rattle.host_creation.specs.Numbers.{SettingsNumbered, created_by, numbered};
 
 use base_shared::Refusal;
 use memory_layout::MemoryLayout;
 use vrc6::Board;
-use vrc6::board::Created;
+use vrc6::board::Changed;
 use vrc6_banking::banking::{Mirroring, Revision, Settings, UnknownNumber};
 
 // The settings of creation by numbers: mirroring 0 to 4, revision 0 for A and 1 for B, bus setting 0 for off and 1 for on.
@@ -53,31 +51,20 @@ impl TryFrom<NumberedSettings> for Settings {
     }
 }
 
-// A create that is refused: the zero board, since an empty buffer fits no layout, and the number of the refusal.
-fn refused(layout: MemoryLayout, changing: &[u8], refusal: Refusal) -> Created
-    ensures { result ≡ record { board = zero_board; refusal = number refusal } }
-{
-    let settings = Settings::new(Mirroring::Vertical, Revision::A);
-    Created {
-        board: Board::create(layout, settings, &[], changing).board,
-        refusal: u8::from(refusal),
-    }
-}
-
 // Create refuses a number that names nothing by 3, after conditions 1 and 2.
 pub fn create_numbered(
     layout: MemoryLayout,
     settings: NumberedSettings,
     fixed: &[u8],
     changing: &[u8],
-) -> Created
+) -> Changed
     ensures { result ≡ created_by layout settings fixed.now changing.now }
 {
     if let Ok(named) = Settings::try_from(settings) {
         return Board::create(layout, named, fixed, changing);
     }
     match layout.check(fixed.len(), changing.len()) {
-        Ok(_) => refused(layout, changing, Refusal::Range),
-        Err(refusal) => refused(layout, changing, refusal),
+        Ok(_) => Board::refused(Refusal::Range),
+        Err(refusal) => Board::refused(refusal),
     }
 }

@@ -12,7 +12,7 @@ use Rattle.irq_clocks.specs.Clocks.{irq_clocked_times}
 use Rattle.vrc6_banking.specs.Banking.{is_b}
 use Rattle.vrc6_calls.specs.declared.Call.{Call}
 use Rattle.vrc6_calls.specs.declared.Call.TheVariants.{Clock}
-use Rattle.vrc6.specs.declared.board.Created.{Created}
+use Rattle.vrc6.specs.declared.board.Changed.{Changed}
 use Rattle.vrc6.specs.Boards.{State, Creation, held_by, new_board, zero_board}
 use Rattle.vrc6.specs.Calls.{create}
 use Rattle.vrc6_calls.specs.Lists.{next, after}
@@ -70,7 +70,7 @@ module _ (c : Creation) (h : (create c).refusal ≡ 0) (ws ms : List (List ℕ))
   same : end_from c ws ms ≡ Ok ended
   same =
       ap
-      (λ (k : Created).
+      (λ (k : Changed).
       let y = after (held_by k.board c.fixed c.changing) (calls_of (steps_of ws)) in
       end_unless k.refusal (end_in c.layout y (after y (calls_of (steps_of ms)))))
       (create_numbered_law c)

@@ -7,7 +7,7 @@ use script_bytes::fnv::{FNV_START, fnv};
 use script_lines::line::Bytes;
 use script_lines::values::Buffer;
 use vrc6::Board;
-use vrc6::board::Created;
+use vrc6::board::Changed;
 use vrc6_banking::banking::Settings;
 use vrc6_calls::{Call, Stepped, step};
 
@@ -130,7 +130,7 @@ impl Buffers {
         fnv(FNV_START, self.lent(buffer))
     }
 
-    pub fn create(&self, layout: MemoryLayout, settings: Settings) -> Created {
+    pub fn create(&self, layout: MemoryLayout, settings: Settings) -> Changed {
         Board::create(
             layout,
             settings,

@@ -3,6 +3,7 @@ use Rattle.std.specs.Prelude.{Bool, false, List, ℕ, replicate}
 use Rattle.memory_pages.specs.declared.page.Page.{Page}
 use Rattle.memory_pages.specs.Pages.{unmapped}
 use Rattle.memory_layout.specs.declared.regions.MemoryLayout.{MemoryLayout}
+use Rattle.memory_access.specs.declared.Access.{Access}
 use Rattle.memory_tables.specs.Paging.{Side, cpu, picture, entry_for}
 use Rattle.vrc6_banking.specs.declared.banking.Banking.{Banking}
 use Rattle.vrc6_banking.specs.declared.banking.Settings.{Settings}
@@ -88,3 +89,7 @@ table picture b = b.chr_pages
 -- the one entry that serves an address (01, Paging 2)
 abbrev pub entry_of : Side → Board → (address : ℕ) → Page
 entry_of s b address = entry_for s (table s b) address
+
+-- what an address accesses: the board's layout, and the entry that serves it (01, Paging 2)
+abbrev pub access_of : Side → Board → (address : ℕ) → Access
+access_of s b address = record { layout = b.layout; page = entry_of s b address }

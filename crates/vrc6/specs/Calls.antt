@@ -3,6 +3,7 @@ use Rattle.std.specs.Prelude.{true, false, List, ℕ, length, Some, None}
 use Rattle.base_shared.specs.Refusals.{unless}
 use Rattle.memory_tables.specs.Paging.{Side, cpu, picture}
 use Rattle.memory_access.specs.Access.{stored, viewed}
+use Rattle.memory_access.specs.declared.Peeked.{Peeked}
 use Rattle.registers.specs.declared.Register.TheVariants.{OfBank, OfAudio, OfIrq}
 use Rattle.registers.specs.Decode.{Decoded, decode}
 use Rattle.vrc6_banking.specs.Banking.{bank_written}
@@ -11,9 +12,8 @@ use Rattle.audio.specs.Sound.{audio_written}
 use Rattle.vrc6_parts.specs.Reads.{Caller, by_cpu, by_picture, peeked_by}
 use Rattle.vrc6_engine.specs.Engine.{engine_clocked, engine_was_reset, engine_level, engine_forecast}
 use Rattle.vrc6.specs.declared.board.Board.{Board}
-use Rattle.vrc6.specs.declared.board.Created.{Created}
+use Rattle.vrc6.specs.declared.board.Changed.{Changed}
 use Rattle.vrc6.specs.declared.board.ByteRead.{ByteRead}
-use Rattle.vrc6.specs.declared.board.Written.{Written}
 use Rattle.vrc6.specs.declared.board.Clocked.{Clocked}
 use Rattle.vrc6.specs.declared.board.Leveled.{Leveled}
 use Rattle.vrc6.specs.declared.board.Forecasted.{Forecasted}
@@ -22,7 +22,7 @@ use Rattle.vrc6.specs.Checks.{create_refusal, engine_refusal, memory_refusal, cp
 
 -- ---- create
 -- the new board, or refused the all-zero one; both buffers stay as they are (01, The board's calls 1; 01, The board's calls 3)
-abbrev pub create : Creation → Created
+abbrev pub create : Creation → Changed
 create c =
     record {
       board = unless (create_refusal c) (new_board c.layout c.settings) zero_board;
@@ -35,12 +35,14 @@ abbrev pub side_of : Caller → Side
 side_of (by_cpu bus) = cpu
 side_of by_picture = picture
 
+-- a read: the byte handed back, or 0 where it is refused, and the number (01, The board's calls 3; 02, change 1)
+abbrev pub read_by : Caller → State → (address : ℕ) → Peeked
+read_by k x address = peeked_by k x.board.open_bus x.board.layout (entry_of (side_of k) x.board address) x.fixed x.changing address
+
 -- CPU read, with a bus byte, and picture read: the board as given, the byte, the number
 -- (01, The board's calls 1; 01, The board's calls 3; 02, change 1)
 abbrev pub byte_read : Caller → State → (address : ℕ) → ByteRead
-byte_read k x address =
-    let got = peeked_by k x.board.open_bus x.board.layout (entry_of (side_of k) x.board address) x.fixed x.changing address in
-    record { board = x.board; byte = got.byte; refusal = got.refusal }
+byte_read k x address = let got = read_by k x address in record { board = x.board; byte = got.byte; refusal = got.refusal }
 
 -- ---- writes
 -- a register takes a byte; after a bank write all entries are rebuilt (01, Banks and decode 2)
@@ -67,7 +69,7 @@ abbrev pub cpu_write_left : State → (address byte : ℕ) → State
 cpu_write_left x address byte = unless (cpu_write_refusal x address) (cpu_written x address byte) x
 
 -- a CPU write's answer: the board, the number (01, The board's calls 1; 01, The board's calls 3)
-abbrev pub cpu_write : State → (address byte : ℕ) → Written
+abbrev pub cpu_write : State → (address byte : ℕ) → Changed
 cpu_write x address byte = record { board = (cpu_write_left x address byte).board; refusal = cpu_write_refusal x address }
 
 -- a picture write that is not refused: a byte, and no register (01, The board's calls 1)
@@ -79,7 +81,7 @@ abbrev pub picture_write_left : State → (address byte : ℕ) → State
 picture_write_left x address byte = unless (memory_refusal picture x address true) (picture_written x address byte) x
 
 -- a picture write's answer: the board, the number (01, The board's calls 1; 01, The board's calls 3)
-abbrev pub picture_write : State → (address byte : ℕ) → Written
+abbrev pub picture_write : State → (address byte : ℕ) → Changed
 picture_write x address byte =
     record { board = (picture_write_left x address byte).board; refusal = memory_refusal picture x address true }
 
@@ -99,7 +101,7 @@ abbrev pub was_reset : Board → Board
 was_reset b = with_engine b (engine_was_reset b.audio)
 
 -- a reset's answer; refused, the board is as given (01, The board's calls 1; 01, The board's calls 3)
-abbrev pub reset : Board → Written
+abbrev pub reset : Board → Changed
 reset b = let n = engine_refusal b in record { board = unless n (was_reset b) b; refusal = n }
 
 -- the board as given, and the level under its name or the refusal (01, The board's calls 2; 01, The board's calls 3)

@@ -1,4 +1,3 @@
 pub mod Boards
 pub mod Checks
 pub mod Calls
-pub mod Reaches

@@ -1,6 +1,9 @@
 // The board, and the answers of its calls.
+ghost use Rattle.std.specs.Prelude.{◌≡◌};
+ghost use Rattle.base_shared.specs.Numbers.{answer_number};
+
 use audio::{Audio, Level};
-use base_shared::Refusal;
+use base_shared::{Refusal, answer_number};
 use irq::VrcIrq;
 use memory_layout::MemoryLayout;
 use memory_pages::Page;
@@ -29,20 +32,15 @@ pub enum ResetKind {
 // The answers. Each hands the next board back and gives the refusal as a number, 0 for none, as document 01 has it; a level and a
 // forecast hold the refusal themselves.
 #[derive(Clone, Copy)]
-pub struct Created {
-    pub board: Board,
-    pub refusal: u8,
-}
-
-#[derive(Clone, Copy)]
 pub struct ByteRead {
     pub board: Board,
     pub byte: u8,
     pub refusal: u8,
 }
 
+// Of create, the writes and reset.
 #[derive(Clone, Copy)]
-pub struct Written {
+pub struct Changed {
     pub board: Board,
     pub refusal: u8,
 }
@@ -64,4 +62,16 @@ pub struct Leveled {
 pub struct Forecasted {
     pub board: Board,
     pub forecast: Result<Option<u32>, Refusal>,
+}
+
+impl Board {
+    // The answer of a call that made or changed this board.
+    pub(crate) fn changed(self, answer: Result<(), Refusal>) -> Changed
+        ensures { result ≡ record { board = self; refusal = answer_number answer } }
+    {
+        Changed {
+            board: self,
+            refusal: answer_number(answer),
+        }
+    }
 }

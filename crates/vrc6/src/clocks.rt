@@ -1,16 +1,19 @@
 // The calls that check interrupt and sound values only: clock, reset, level, forecast. Crate vrc6_engine does them without the
 // board around both.
-ghost use Rattle.std.specs.Prelude.{◌≡◌};
+ghost use Rattle.std.specs.Prelude.{◌≡◌, IfOk};
+ghost use Rattle.base_shared.specs.Numbers.{answer_number};
 ghost use Rattle.vrc6.specs.Boards.{engine_of, with_engine};
 ghost use Rattle.vrc6.specs.Calls.{clock, forecast, level, reset};
+ghost use Rattle.vrc6.specs.Checks.{engine_refusal};
 
-use crate::board::{Board, Clocked, Forecasted, Leveled, ResetKind, Written};
+use crate::board::{Board, Changed, Clocked, Forecasted, Leveled, ResetKind};
+use base_shared::Refusal;
 use vrc6_engine::Engine;
 
 impl Board {
     // Interrupt and sound, which the board holds side by side.
-    pub fn engine(self) -> Engine
-        ensures { result ≡ engine_of self }
+    pub fn engine(&self) -> Engine
+        ensures { result ≡ engine_of self.now }
     {
         Engine {
             irq: self.irq,
@@ -18,12 +21,23 @@ impl Board {
         }
     }
 
-    fn with_engine(mut self, engine: Engine) -> Board
-        ensures { result ≡ with_engine self engine }
+    fn set_engine(&mut self, engine: Engine)
+        ensures { self.new ≡ with_engine self.old engine }
     {
         self.irq = engine.irq;
         self.audio = engine.audio;
-        self
+    }
+
+    // With the board lent: whether it ticked.
+    #[inline(always)]
+    pub fn lent_clock(&mut self) -> Result<bool, Refusal>
+        ensures number { answer_number result ≡ engine_refusal self.old }
+        ensures ticked { IfOk result (λ ticked. ticked ≡ (clock self.old).ticked) }
+        ensures board_after { self.new ≡ (clock self.old).board }
+    {
+        let next = self.engine().clock()?;
+        self.set_engine(next.engine);
+        Ok(next.ticked)
     }
 
     // One answer for both ways, so that the board is copied once: clocks run in loops.
@@ -31,37 +45,36 @@ impl Board {
     pub fn clock(mut self) -> Clocked
         ensures { result ≡ clock self }
     {
-        let (ticked, refusal) = match self.engine().clock() {
-            Ok(next) => {
-                self.irq = next.engine.irq;
-                self.audio = next.engine.audio;
-                (next.ticked, 0)
-            }
-            Err(refusal) => (false, u8::from(refusal)),
-        };
+        let answer = self.lent_clock();
         Clocked {
             board: self,
-            ticked,
-            refusal,
+            ticked: answer.unwrap_or(false),
+            refusal: match answer {
+                Ok(_) => 0,
+                Err(refusal) => u8::from(refusal),
+            },
         }
     }
 
-    // Soft and hard alike: the interrupt is cleared, of the sound halt only; no bank moves, and the bus setting stays.
-    pub fn reset(self, _kind: ResetKind) -> Written
+    // With the board lent. Soft and hard alike: the interrupt is cleared, of the sound halt only; no bank moves, and the bus setting
+    // stays.
+    pub fn lent_reset(&mut self) -> Result<(), Refusal>
+        ensures number { answer_number result ≡ engine_refusal self.old }
+        ensures board_after { self.new ≡ (reset self.old).board }
+    {
+        let engine = self.engine().reset()?;
+        self.set_engine(engine);
+        Ok(())
+    }
+
+    pub fn reset(mut self, _kind: ResetKind) -> Changed
         ensures { result ≡ reset self }
     {
-        match self.engine().reset() {
-            Ok(engine) => Written {
-                board: self.with_engine(engine),
-                refusal: 0,
-            },
-            Err(refusal) => Written {
-                board: self,
-                refusal: u8::from(refusal),
-            },
-        }
+        let answer = self.lent_reset();
+        self.changed(answer)
     }
 
+    // Level and forecast are one line each, which calls what differs.
     pub fn level(self) -> Leveled
         ensures { result ≡ level self }
     {

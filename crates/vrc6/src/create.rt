@@ -1,10 +1,12 @@
 // Create: the one call that makes a board.
 ghost use Rattle.std.specs.Prelude.{◌≡◌};
+ghost use Rattle.base_shared.specs.Numbers.{number};
 ghost use Rattle.vrc6.specs.Boards.{new_board, zero_board};
 ghost use Rattle.vrc6.specs.Calls.{create};
 
-use crate::board::{Board, Created};
+use crate::board::{Board, Changed};
 use audio::Audio;
+use base_shared::Refusal;
 use irq::VrcIrq;
 use memory_layout::{LimitedLayout, MemoryLayout};
 use memory_pages::Page;
@@ -18,13 +20,7 @@ impl Board {
         ensures { result ≡ zero_board }
     {
         Board {
-            layout: MemoryLayout {
-                prg_rom: 0,
-                chr: 0,
-                chr_writable: false,
-                prg_ram: 0,
-                ciram: 0,
-            },
+            layout: MemoryLayout::default(),
             prg_pages: [Page::UNMAPPED; 64],
             chr_pages: [Page::UNMAPPED; 16],
             banking: Banking::zero(),
@@ -50,23 +46,24 @@ impl Board {
         }
     }
 
+    // A create that is refused, whoever refuses it.
+    pub fn refused(refusal: Refusal) -> Changed
+        ensures { result ≡ record { board = zero_board; refusal = number refusal } }
+    {
+        Board::zero().changed(Err(refusal))
+    }
+
     pub fn create(
         layout: MemoryLayout,
         settings: Settings,
         fixed: &[u8],
         changing: &[u8],
-    ) -> Created
+    ) -> Changed
         ensures { result ≡ create (record { layout = layout; settings = settings; fixed = fixed.now; changing = changing.now }) }
     {
         match check_creation(layout, fixed, changing) {
-            Ok(limited) => Created {
-                board: Board::new(limited, settings),
-                refusal: 0,
-            },
-            Err(refusal) => Created {
-                board: Board::zero(),
-                refusal: u8::from(refusal),
-            },
+            Ok(limited) => Board::new(limited, settings).changed(Ok(())),
+            Err(refusal) => Board::refused(refusal),
         }
     }
 }

@@ -7,7 +7,7 @@ use Rattle.vrc6_parts.specs.Reads.{Caller, by_cpu, by_picture}
 use Rattle.audio.specs.Levels.{level_refusal, level_in}
 use Rattle.vrc6.specs.declared.board.Board.{Board}
 use Rattle.vrc6.specs.declared.board.ByteRead.{ByteRead}
-use Rattle.vrc6.specs.declared.board.Written.{Written}
+use Rattle.vrc6.specs.declared.board.Changed.{Changed}
 use Rattle.vrc6.specs.declared.board.Clocked.{Clocked}
 use Rattle.vrc6.specs.declared.board.Leveled.{Leveled}
 use Rattle.vrc6.specs.declared.board.Forecasted.{Forecasted}
@@ -54,7 +54,7 @@ shape ReadForecast = asks forecasting
 -- a call's whole answer, as its contract has it; page view's bytes with the number of the call beside it (01, The board's calls 2)
 pub data Given : Type 0 where
   of_read : ByteRead → Given
-  of_write : Written → Given
+  of_write : Changed → Given
   of_clock : Clocked → Given
   of_level : Leveled → Given
   of_forecast : Forecasted → Given

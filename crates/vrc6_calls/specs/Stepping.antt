@@ -1,6 +1,6 @@
 -- What `step` returns of an answer: the board, and what the call says beside it. Assumes nothing.
 use Rattle.vrc6.specs.declared.board.ByteRead.{ByteRead}
-use Rattle.vrc6.specs.declared.board.Written.{Written}
+use Rattle.vrc6.specs.declared.board.Changed.{Changed}
 use Rattle.vrc6.specs.declared.board.Clocked.{Clocked}
 use Rattle.vrc6.specs.declared.board.Leveled.{Leveled}
 use Rattle.vrc6.specs.declared.board.Forecasted.{Forecasted}
@@ -12,8 +12,8 @@ abbrev pub of_byte_read : ByteRead → Stepped
 of_byte_read r = record { board = r.board; answer = Byte r.byte r.refusal }
 
 -- what it returns of a write or a reset
-abbrev pub of_written : Written → Stepped
-of_written r = record { board = r.board; answer = Done r.refusal }
+abbrev pub of_changed : Changed → Stepped
+of_changed r = record { board = r.board; answer = Done r.refusal }
 
 -- what it returns of a clock
 abbrev pub of_clocked : Clocked → Stepped

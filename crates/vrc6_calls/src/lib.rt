@@ -5,12 +5,12 @@
 ghost use Rattle.std.specs.Prelude.{◌≡◌};
 ghost use Rattle.vrc6.specs.Boards.{held_by};
 ghost use Rattle.vrc6_calls.specs.Lists.{changing_after, step};
-ghost use Rattle.vrc6_calls.specs.Stepping.{of_byte_read, of_clocked, of_forecasted, of_leveled, of_written};
+ghost use Rattle.vrc6_calls.specs.Stepping.{of_byte_read, of_changed, of_clocked, of_forecasted, of_leveled};
 
 use audio::Level;
 use base_shared::Refusal;
 use vrc6::Board;
-use vrc6::board::{ByteRead, Clocked, Forecasted, Leveled, ResetKind, Written};
+use vrc6::board::{ByteRead, Changed, Clocked, Forecasted, Leveled, ResetKind};
 
 // A call with its arguments; a CPU read has the bus byte behind its address. Clock and CPU write stand twice, by value and for
 // their lent forms, which promise the same.
@@ -49,6 +49,7 @@ pub struct Stepped {
     pub answer: Answer,
 }
 
+// One conversion for each of the answers: each makes another case of `Answer` of its own fields, so no code is common to them.
 impl From<ByteRead> for Stepped {
     ghost from_gives = { λ read stepped. stepped ≡ of_byte_read read };
 
@@ -60,13 +61,13 @@ impl From<ByteRead> for Stepped {
     }
 }
 
-impl From<Written> for Stepped {
-    ghost from_gives = { λ written stepped. stepped ≡ of_written written };
+impl From<Changed> for Stepped {
+    ghost from_gives = { λ changed stepped. stepped ≡ of_changed changed };
 
-    fn from(written: Written) -> Stepped {
+    fn from(changed: Changed) -> Stepped {
         Stepped {
-            board: written.board,
-            answer: Answer::Done(written.refusal),
+            board: changed.board,
+            answer: Answer::Done(changed.refusal),
         }
     }
 }

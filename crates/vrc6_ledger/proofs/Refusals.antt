@@ -8,7 +8,7 @@ use Rattle.base_shared.specs.Numbered.{own_numbers}
 use Rattle.base_shared.proofs.Numbers.{numbered_law}
 use Rattle.memory_tables.specs.Paging.{cpu, picture}
 use Rattle.vrc6.specs.declared.board.ByteRead.{ByteRead}
-use Rattle.vrc6.specs.declared.board.Written.{Written}
+use Rattle.vrc6.specs.declared.board.Changed.{Changed}
 use Rattle.vrc6.specs.Boards.{State, held_by, new_board, zero_board}
 use Rattle.vrc6.specs.Checks.{create_refusal, memory_refusal, cpu_write_refusal}
 use Rattle.vrc6.specs.Calls.{side_of, byte_read, cpu_write, picture_write}
@@ -26,7 +26,7 @@ module _ (x : State) where
   of_read_lem : (n b : ℕ) (r : ByteRead) → r.byte ≡ unless n b 0 → (n ≡ 0 → ⊥) → GivenBack x (of_read r) x
   of_read_lem n b r e h = record { state = refl; byte = e ∙ not_done n b 0 h; view = refl; tick = refl; level = refl; forecast = refl }
 
-  of_write_lem : (r : Written) (y : State) → y ≡ x → GivenBack x (of_write r) y
+  of_write_lem : (r : Changed) (y : State) → y ≡ x → GivenBack x (of_write r) y
   of_write_lem r y e = record { state = e; byte = refl; view = refl; tick = refl; level = refl; forecast = refl }
 
   of_view : (a : ℕ) → (memory_refusal picture x a true ≡ 0 → ⊥) → GivenBack x (given_by x (views a)) x
