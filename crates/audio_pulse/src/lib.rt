@@ -10,8 +10,8 @@ use audio_shared::{high_bits, low_byte, period};
 use base_shared::bit;
 use registers::ChannelRegister;
 
-// The Rust's `Pulse`, field by field, which C and scripts name: so it and `Saw` do not share a struct of the frequency, timer and shift, and
-// what each sets there stays one line.
+// The Rust's `Pulse`, field by field, which C and scripts name: so it and `Saw` share no struct of the frequency, timer and shift.
+// What `new`, `silent` and `set_freq_shift` set there is a line each, which a trait over both would not shorten.
 #[repr(C)]
 #[derive(Clone, Copy, Default, PartialEq, Eq)]
 pub struct Pulse {
