@@ -1,5 +1,5 @@
 -- What the interrupt's clock means for the window (docs/SCENES.md). Assumes nothing.
-use Rattle.std.specs.Prelude.{Option, Some, None, ℕ, ◌-◌, Bool, cond, nat_lt}
+use Rattle.std.specs.Prelude.{Option, Some, None, List, [], ◌∷◌, ℕ, ◌-◌, Bool, cond, nat_lt}
 use Rattle.scene_moments.specs.declared.moment.Came.{Came}
 use Rattle.scene_moments.specs.declared.moment.Came.TheVariants as came
 use Rattle.scene_moments.specs.declared.moment.Came.TheVariants.{On, Held}
@@ -34,6 +34,14 @@ rank mark.Early = 1
 rank mark.Late = 2
 rank mark.Lost = 3
 rank mark.Never = 4
+
+-- the letter of a mark in a bar: . < > ! x (docs/SCENES.md)
+abbrev pub mark_text : Mark → List ℕ
+mark_text mark.Right = 0x2E ∷ []
+mark_text mark.Early = 0x3C ∷ []
+mark_text mark.Late = 0x3E ∷ []
+mark_text mark.Lost = 0x21 ∷ []
+mark_text mark.Never = 0x78 ∷ []
 
 -- an interrupt on a line, early, late or right, and by how many lines
 abbrev pub on_line : (line window : ℕ) → Verdict

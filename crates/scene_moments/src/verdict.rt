@@ -1,10 +1,11 @@
 // What the interrupt's clock means for the window.
-ghost use Rattle.std.specs.Prelude.{◌≡◌};
-ghost use Rattle.scene_moments.specs.Verdicts.{counted_of, line_told, lost_on, mark_of, on_line, seen_as, taken_on, verdict_of};
+ghost use Rattle.std.specs.Prelude.{◌≡◌, Some};
+ghost use Rattle.scene_moments.specs.Verdicts.{counted_of, line_told, lost_on, mark_of, mark_text, on_line, seen_as, taken_on, verdict_of};
 
 use crate::lines::Screen;
 use crate::moment::Came;
 use std::cmp::Ordering;
+use std::fmt;
 
 // How a moment is marked, the worse the greater.
 #[derive(Clone, Copy, PartialEq, Eq, PartialOrd, Ord)]
@@ -14,6 +15,21 @@ pub enum Mark {
     Late,
     Lost,
     Never,
+}
+
+// As a bar shows it.
+impl fmt::Display for Mark {
+    ghost output = { λ mark. Some (mark_text mark) };
+
+    fn fmt<W: fmt::Write>(&self, f: &mut fmt::Formatter<W>) -> fmt::Result {
+        match self {
+            Mark::Right => f.write_str("."),
+            Mark::Early => f.write_str("<"),
+            Mark::Late => f.write_str(">"),
+            Mark::Lost => f.write_str("!"),
+            Mark::Never => f.write_str("x"),
+        }
+    }
 }
 
 // The interrupt's line, and by how many lines it is early or late.

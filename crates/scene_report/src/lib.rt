@@ -152,16 +152,6 @@ impl Display for Moment {
     }
 }
 
-fn letter_of(mark: Mark) -> &'static str {
-    match mark {
-        Mark::Right => ".",
-        Mark::Early => "<",
-        Mark::Late => ">",
-        Mark::Lost => "!",
-        Mark::Never => "x",
-    }
-}
-
 // The bar of 64 columns.
 #[derive(Clone, Copy)]
 struct Bar([Mark; 64]);
@@ -170,7 +160,7 @@ impl Display for Bar {
     fn fmt<W: fmt::Write>(&self, f: &mut Formatter<W>) -> fmt::Result {
         write!(f, "  [")?;
         for mark in self.0.iter() {
-            write!(f, "{}", letter_of(*mark))?;
+            write!(f, "{mark}")?;
         }
         write!(f, "]")
     }

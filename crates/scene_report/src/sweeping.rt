@@ -4,10 +4,9 @@ ghost use Rattle.scene_sweep.specs.Swept.{SweptOf};
 use crate::{Bar, Moment, Stretch};
 use irq::VrcIrq;
 use scene_moments::Mark;
-use scene_steps::Step;
 use scene_sweep::bar::{mark, unmarked};
 use scene_sweep::tally::tallied;
-use scene_sweep::{Sweep, Tally};
+use scene_sweep::{MenuSweep, Tally};
 use std::fmt;
 use std::fmt::{Display, Formatter};
 use text_output::{Output, put};
@@ -20,14 +19,8 @@ pub struct Swept {
 }
 
 // Plays the menu at each clock, run by run. The counter goes on from run to run.
-pub fn sweep_clocks(
-    given: Sweep,
-    start: VrcIrq,
-    clocks: u32,
-    menu: &[Step],
-    out: &mut Output,
-) -> Swept
-    ensures { SweptOf given menu.now start clocks clocks result.tally result.bar }
+pub fn sweep_clocks(given: MenuSweep, start: VrcIrq, clocks: u32, out: &mut Output) -> Swept
+    ensures { SweptOf given.entry.sweep given.entry.menu.now start clocks clocks result.tally result.bar }
 {
     let mut bar = unmarked();
     let mut tally = None;
@@ -35,7 +28,7 @@ pub fn sweep_clocks(
     let mut from: u32 = 0;
     // A turn goes on by as many clocks as its run has.
     while from < clocks {
-        let run = given.run(irq, from, clocks, menu);
+        let run = given.run(irq, from, clocks);
         tally = tallied(tally, from, run);
         let told = run.first.verdict.mark();
         mark(&mut bar, from, run.to, clocks, told);
@@ -43,7 +36,7 @@ pub fn sweep_clocks(
             from,
             last: run.to - 1,
             run,
-            screen: given.window.screen,
+            screen: given.sweep.window.screen,
             alone: clocks,
         };
         put!(out; "{stretch}");

@@ -14,6 +14,10 @@ below k n y h e =
 onward : (a b n : ℕ) → 0 < n → a ≤ b → a / n ≤ b / n
 onward a b n p h = (le-div_iff_mul-le {k = n} {x = a / n} {y = b} p).1 (omega (arith, div-mul-le_self a n))
 
+-- the first clock's column does not lie behind the last one's
+pub ordered : (n from to : ℕ) → from < to → to ≤ n → first_column from n ≤ last_column (to - 1) n
+ordered n from to h l = onward (64 * from) (64 * (to - 1) + 63) n (omega arith) (omega arith)
+
 -- a clock from `from` to before `to` that touches column i
 pub record Among (n from to i : ℕ) : Type 0 where
   pub clock : ℕ

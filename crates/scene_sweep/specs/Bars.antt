@@ -1,5 +1,5 @@
 -- The bar under a sweep: n clocks are cut in 64 equal shares, a column for each (docs/SCENES.md). Assumes nothing.
-use Rattle.std.specs.Prelude.{◌≡◌, ℕ, ◌+◌, ◌*◌, ◌/◌, ◌<◌, ◌≤◌, ◌⊎◌, List, length, get_or}
+use Rattle.std.specs.Prelude.{◌≡◌, ℕ, ◌+◌, ◌*◌, ◌/◌, ◌<◌, ◌≤◌, ◌⊎◌, List, length, get_or, cond, nat_lt}
 use Rattle.scene_moments.specs.declared.verdict.Mark.{Mark}
 use Rattle.scene_moments.specs.declared.verdict.Mark.TheVariants.{Right}
 use Rattle.scene_moments.specs.Verdicts.{rank}
@@ -11,6 +11,10 @@ first_column k n = 64 * k / n
 -- the column whose share clock k of n ends in
 abbrev pub last_column : (k n : ℕ) → ℕ
 last_column k n = (64 * k + 63) / n
+
+-- the worse of a mark and that of a column
+abbrev pub worse : (m column : Mark) → Mark
+worse m column = cond (nat_lt (rank m) (rank column)) column m
 
 -- clock j of n touches column i
 pub record Touches (n j i : ℕ) : Type 0 where

@@ -1,6 +1,6 @@
 // The bar under a sweep: 64 columns, each a share of the clocks that were swept.
-ghost use Rattle.std.specs.Prelude.{◌≡◌, ◌<◌, ◌≤◌};
-ghost use Rattle.scene_sweep.specs.Bars.{MarkedOn, Unmarked, first_column, last_column};
+ghost use Rattle.std.specs.Prelude.{◌≡◌, ◌<◌, ◌≤◌, map};
+ghost use Rattle.scene_sweep.specs.Bars.{MarkedOn, Unmarked, first_column, last_column, worse};
 
 use scene_moments::verdict::Mark;
 
@@ -30,16 +30,21 @@ pub fn unmarked() -> [Mark; 64]
     [Mark::Right; 64]
 }
 
-// Marks the columns of the clocks from `from` to before `to`, of n. A column keeps a worse mark. Columns go by their numbers, as
-// the shares of clocks do.
+// Raises columns to a mark. A column keeps a worse one.
+fn raise(columns: &mut [Mark], mark: Mark)
+    ensures { columns.new ≡ map (worse mark) columns.old }
+{
+    for column in columns.iter_mut() {
+        *column = (*column).max(mark);
+    }
+}
+
+// Marks the columns of the clocks from `from` to before `to`, of n.
 pub fn mark(bar: &mut [Mark; 64], from: u32, to: u32, n: u32, mark: Mark)
     requires { (from < to) × (to ≤ n) }
     ensures { MarkedOn n from to mark bar.old bar.new }
 {
-    let last = to - 1;
-    for i in first_column(from, n)..last_column(last, n) + 1 {
-        if bar[i] < mark {
-            bar[i] = mark;
-        }
-    }
+    let first = first_column(from, n);
+    let last = last_column(to - 1, n);
+    raise(&mut bar[first..last + 1], mark);
 }

@@ -2,10 +2,9 @@
 ghost use Rattle.std.specs.Prelude.{◌≡◌};
 ghost use Rattle.scene_sweep.specs.Letters.{MetOf, is_marked, met_with};
 
-use crate::runs::Sweep;
+use crate::runs::MenuSweep;
 use irq::VrcIrq;
 use scene_moments::moment::came_in;
-use scene_steps::Step;
 
 // How many there are, the first clock, and the step of the menu in which the interrupt comes there.
 #[derive(Clone, Copy, PartialEq, Eq)]
@@ -42,16 +41,21 @@ fn met_with(met: Option<Met>, marks: &[bool], k: u32, step: Option<usize>) -> Op
     }
 }
 
-impl Sweep {
+impl MenuSweep<'_> {
     // Counts the clocks of a sweep at which the interrupt comes in a step of the menu that is marked, since it begins with wrong
     // letters.
-    pub fn letters_met(self, irq: VrcIrq, clocks: u32, menu: &[Step], marks: &[bool]) -> Option<Met>
-        ensures { MetOf self menu.now marks.now irq clocks result }
+    pub fn letters_met(self, irq: VrcIrq, clocks: u32, marks: &[bool]) -> Option<Met>
+        ensures { MetOf self.entry.sweep self.entry.menu.now marks.now irq clocks result }
     {
         let mut met = None;
         let mut q = irq;
         for k in 0..clocks {
-            met = met_with(met, marks, k, came_in(q, k, self.revision_b, menu));
+            met = met_with(
+                met,
+                marks,
+                k,
+                came_in(q, k, self.sweep.revision_b, self.menu),
+            );
             q = q.clock().irq;
         }
         met

@@ -8,6 +8,6 @@ pub mod spans;
 pub mod tally;
 
 pub use letters::Met;
-pub use runs::{Run, Sweep};
+pub use runs::{MenuSweep, Run, Sweep};
 pub use spans::Span;
 pub use tally::{Tally, Wrong};

@@ -15,6 +15,13 @@ pub struct Sweep {
     pub revision_b: bool,
 }
 
+// A menu that is swept.
+#[derive(Clone, Copy)]
+pub struct MenuSweep<'a> {
+    pub sweep: Sweep,
+    pub menu: &'a [Step],
+}
+
 // What is seen at a run's first clock, the clock behind its last, the counter at that clock, and the clocks that count of its
 // interrupts and on which they are cleared, if there are such.
 #[derive(Clone, Copy)]
@@ -56,24 +63,25 @@ impl Run {
     }
 }
 
-impl Sweep {
+impl MenuSweep<'_> {
     // What is seen if the menu runs at clock k, which leaves the counter so.
-    fn seen(self, irq: VrcIrq, k: u32, menu: &[Step]) -> Seen
-        ensures { result ≡ seen_at self menu.now irq k }
+    #[inline(always)]
+    fn seen(self, irq: VrcIrq, k: u32) -> Seen
+        ensures { result ≡ seen_at self.entry.sweep self.entry.menu.now irq k }
     {
-        self.window
-            .seen_as(came_after(irq, k, self.revision_b, menu))
+        let Sweep { window, revision_b } = self.sweep;
+        window.seen_as(came_after(irq, k, revision_b, self.menu))
     }
 
     // The run that starts at clock `from`, before which the counter stands so.
-    pub fn run(self, irq: VrcIrq, from: u32, clocks: u32, menu: &[Step]) -> Run
+    pub fn run(self, irq: VrcIrq, from: u32, clocks: u32) -> Run
         requires { from < clocks }
-        ensures { RunOf self menu.now irq from clocks result }
+        ensures { RunOf self.entry.sweep self.entry.menu.now irq from clocks result }
     {
-        let mut run = Run::of(self.seen(irq, from, menu), irq, from);
+        let mut run = Run::of(self.seen(irq, from), irq, from);
         // The run counts its clocks itself.
         while run.to < clocks {
-            let seen = self.seen(run.irq, run.to, menu);
+            let seen = self.seen(run.irq, run.to);
             if seen.verdict != run.first.verdict {
                 return run;
             }

@@ -1,7 +1,7 @@
 -- `run` meets its contract. Assumes nothing.
 use Rattle.std.proofs.Common.{rules, tests}
 use Rattle.scene_sweep.proofs.Running.{starts, goes_on}
-use Rattle.scene_sweep.proofs.runs.Sweep.run.Goals as goal
+use Rattle.scene_sweep.proofs.runs.MenuSweep.run.Goals as goal
 
 pub loop-run-init : goal.loop-run-init
 loop-run-init c = rw c.of-run.ensures (starts _ _ _ _ _ _ c.requires c.seen.ensures)

@@ -1,7 +1,7 @@
 -- `letters_met` meets its contract. Assumes nothing.
 use Rattle.std.proofs.Common.{arith}
 use Rattle.scene_sweep.proofs.Meeting.{none, more}
-use Rattle.scene_sweep.proofs.runs.Sweep.letters_met.Goals as goal
+use Rattle.scene_sweep.proofs.runs.MenuSweep.letters_met.Goals as goal
 
 pub loop-k-init : goal.loop-k-init
 loop-k-init c = none _ _ _ _

@@ -1,6 +1,0 @@
--- `letters_met` meets its contract. Assumes nothing.
-use Rattle.scene_sweep.proofs.Meeting.{Upto}
-use Rattle.scene_sweep.proofs.runs.Sweep.letters_met.Given as goal
-
-abbrev pub invariant-loop-k : goal.invariant-loop-k
-invariant-loop-k l = Upto l.self l.menu l.marks l.fn.irq l.k l.q l.met
