@@ -16,7 +16,7 @@ onward a b n p h = (le-div_iff_mul-le {k = n} {x = a / n} {y = b} p).1 (omega (a
 
 -- the first clock's column does not lie behind the last one's
 pub ordered : (n from to : ℕ) → from < to → to ≤ n → first_column from n ≤ last_column (to - 1) n
-ordered n from to h l = onward (64 * from) (64 * (to - 1) + 63) n (omega arith) (omega arith)
+ordered n from to h l = onward (64 * from + 0) (64 * (to - 1) + 63) n (omega arith) (omega arith)
 
 -- a clock from `from` to before `to` that touches column i
 pub record Among (n from to i : ℕ) : Type 0 where
@@ -29,7 +29,7 @@ module _ (n from to i : ℕ) (h : from < to) (l : to ≤ n) where
   -- what a clock touches lies between the columns of the first and of the last clock
   pub spread : (j : ℕ) → from ≤ j → j < to → Touches n j i → (first_column from n ≤ i) × (i ≤ last_column (to - 1) n)
   spread j a b t = (
-    omega (arith, t.first, onward (64 * from) (64 * j) n (omega arith) (omega arith)),
+    omega (arith, t.first, onward (64 * from + 0) (64 * j + 0) n (omega arith) (omega arith)),
     omega (arith, t.last, onward (64 * j + 63) (64 * (to - 1) + 63) n (omega arith) (omega arith)),
   )
 
@@ -38,13 +38,13 @@ module _ (n from to i : ℕ) (h : from < to) (l : to ≤ n) where
   between a b =
       let p : 0 < n = omega arith in
       let x : 64 * from + 63 < i * n = (div-lt_iff_lt-mul {k = n} {x = 64 * from + 63} {y = i} p).0 a in
-      let y : (i + 1) * n ≤ 64 * (to - 1) = (le-div_iff_mul-le {k = n} {x = i + 1} {y = 64 * (to - 1)} p).0 (omega arith) in
+      let y : (i + 1) * n ≤ 64 * (to - 1) + 0 = (le-div_iff_mul-le {k = n} {x = i + 1} {y = 64 * (to - 1) + 0} p).0 (omega arith) in
       record {
         clock = i * n / 64;
         behind = omega arith;
         before = omega (arith, add-mul i 1 n);
         touches = record {
-          first = omega (arith, (div-lt_iff_lt-mul {k = n} {x = 64 * (i * n / 64)} {y = i + 1} p).1 (omega (arith, add-mul i 1 n)));
+          first = omega (arith, (div-lt_iff_lt-mul {k = n} {x = 64 * (i * n / 64) + 0} {y = i + 1} p).1 (omega (arith, add-mul i 1 n)));
           last = (le-div_iff_mul-le {k = n} {x = i} {y = 64 * (i * n / 64) + 63} p).1 (omega arith);
         };
       }

@@ -1,3 +1,4 @@
+pub mod Badness
 pub mod Columns
 pub mod Marking
 pub mod Meeting

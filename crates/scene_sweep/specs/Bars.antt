@@ -4,13 +4,17 @@ use Rattle.scene_moments.specs.declared.verdict.Mark.{Mark}
 use Rattle.scene_moments.specs.declared.verdict.Mark.TheVariants.{Right}
 use Rattle.scene_moments.specs.Verdicts.{rank}
 
+-- the column in whose share a 64th part of clock k of n lies
+abbrev pub column : (k part n : ℕ) → ℕ
+column k part n = (64 * k + part) / n
+
 -- the column whose share clock k of n begins in
 abbrev pub first_column : (k n : ℕ) → ℕ
-first_column k n = 64 * k / n
+first_column k n = column k 0 n
 
 -- the column whose share clock k of n ends in
 abbrev pub last_column : (k n : ℕ) → ℕ
-last_column k n = (64 * k + 63) / n
+last_column k n = column k 63 n
 
 -- the worse of a mark and that of a column
 abbrev pub worse : (m column : Mark) → Mark

@@ -1,6 +1,9 @@
 -- How many moments of a sweep are wrong, the first of them and the worst. At clock j `at j` is seen (docs/SCENES.md). Assumes nothing.
 use Rattle.std.specs.Prelude.{◌≡◌, Option, Some, None, ℕ, zero, suc, ◌+◌, ◌^◌, ◌<◌, ◌≤◌, Bool, true, false, cond}
 use Rattle.scene_sweep.specs.declared.runs.Run.{Run}
+use Rattle.scene_sweep.specs.declared.tally.Badness.{Badness}
+use Rattle.scene_sweep.specs.declared.tally.Badness.TheVariants as badness_kind
+use Rattle.scene_sweep.specs.declared.tally.Badness.TheVariants.{Lines}
 use Rattle.scene_sweep.specs.declared.tally.Tally.{Tally}
 use Rattle.scene_sweep.specs.declared.tally.Wrong.{Wrong}
 use Rattle.scene_moments.specs.declared.verdict.Seen.{Seen}
@@ -22,6 +25,18 @@ badness (Early line off) = off
 badness (Late line off) = off
 badness (Lost line) = 2 ^ 32
 badness Never = 2 ^ 32 + 1
+
+-- the same of a badness by its kind
+abbrev pub weight : Badness → ℕ
+weight (Lines off) = off
+weight badness_kind.Lost = 2 ^ 32
+weight badness_kind.Never = 2 ^ 32 + 1
+
+-- lines are counted in 32 bits
+abbrev pub Weighed : Badness → Type 0
+Weighed (Lines off) = off < 2 ^ 32
+Weighed badness_kind.Lost = Unit {0}
+Weighed badness_kind.Never = Unit {0}
 
 -- how many of the clocks before n are wrong
 unfoldable pub wrong_before : (at : ℕ → Seen) (n : ℕ) → ℕ

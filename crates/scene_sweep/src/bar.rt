@@ -1,26 +1,18 @@
 // The bar under a sweep: 64 columns, each a share of the clocks that were swept.
 ghost use Rattle.std.specs.Prelude.{◌≡◌, ◌<◌, ◌≤◌, map};
-ghost use Rattle.scene_sweep.specs.Bars.{MarkedOn, Unmarked, first_column, last_column, worse};
+ghost use Rattle.scene_sweep.specs.Bars.{MarkedOn, Unmarked, column, worse};
 
 use scene_moments::verdict::Mark;
 
 const COLUMNS: u64 = 64;
 
-// The first and the last column whose share of n clocks touches clock k.
+// The column in which a 64th part of clock k of n lies.
 #[tactic(auto, using(crate::proofs::Columns::below))]
-fn first_column(k: u32, n: u32) -> usize
-    requires { k < n }
-    ensures { (result ≡ first_column k n) × (result < 64) }
+fn column(k: u32, part: u64, n: u32) -> usize
+    requires { (k < n) × (part < 64) }
+    ensures { (result ≡ column k part n) × (result < 64) }
 {
-    (COLUMNS * u64::from(k) / u64::from(n)) as usize
-}
-
-#[tactic(auto, using(crate::proofs::Columns::below))]
-fn last_column(k: u32, n: u32) -> usize
-    requires { k < n }
-    ensures { (result ≡ last_column k n) × (result < 64) }
-{
-    ((COLUMNS * u64::from(k) + (COLUMNS - 1)) / u64::from(n)) as usize
+    ((COLUMNS * u64::from(k) + part) / u64::from(n)) as usize
 }
 
 // The bar of no clock.
@@ -44,7 +36,7 @@ pub fn mark(bar: &mut [Mark; 64], from: u32, to: u32, n: u32, mark: Mark)
     requires { (from < to) × (to ≤ n) }
     ensures { MarkedOn n from to mark bar.old bar.new }
 {
-    let first = first_column(from, n);
-    let last = last_column(to - 1, n);
+    let first = column(from, 0, n);
+    let last = column(to - 1, COLUMNS - 1, n);
     raise(&mut bar[first..last + 1], mark);
 }

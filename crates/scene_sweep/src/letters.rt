@@ -43,19 +43,15 @@ fn met_with(met: Option<Met>, marks: &[bool], k: u32, step: Option<usize>) -> Op
 
 impl MenuSweep<'_> {
     // Counts the clocks of a sweep at which the interrupt comes in a step of the menu that is marked, since it begins with wrong
-    // letters.
+    // letters. Marks lie beside the steps, as where the interrupt comes is asked of the steps alone.
     pub fn letters_met(self, irq: VrcIrq, clocks: u32, marks: &[bool]) -> Option<Met>
         ensures { MetOf self.entry.sweep self.entry.menu.now marks.now irq clocks result }
     {
         let mut met = None;
         let mut q = irq;
         for k in 0..clocks {
-            met = met_with(
-                met,
-                marks,
-                k,
-                came_in(q, k, self.sweep.revision_b, self.menu),
-            );
+            let step = came_in(q, k, self.sweep.revision_b, self.menu);
+            met = met_with(met, marks, k, step);
             q = q.clock().irq;
         }
         met

@@ -1,6 +1,6 @@
 // The moments of a sweep that are wrong: how many, the first and the worst.
 ghost use Rattle.std.specs.Prelude.{◌≡◌, ◌<◌};
-ghost use Rattle.scene_sweep.specs.Tallies.{TalliedOn, badness, is_wrong};
+ghost use Rattle.scene_sweep.specs.Tallies.{TalliedOn, Weighed, badness, is_wrong, weight};
 
 use crate::runs::Run;
 use scene_moments::verdict::{Seen, Verdict};
@@ -19,8 +19,13 @@ pub struct Tally {
     pub worst: Wrong,
 }
 
-// Above any number of lines.
-const BEYOND: u64 = 0x1_0000_0000;
+// How bad a verdict is, the worse the greater: by so many lines, or worse than any number of them.
+#[derive(Clone, Copy, PartialEq, Eq, PartialOrd, Ord)]
+enum Badness {
+    Lines(u32),
+    Lost,
+    Never,
+}
 
 fn is_wrong(verdict: Verdict) -> bool
     ensures { result ≡ is_wrong verdict }
@@ -28,14 +33,16 @@ fn is_wrong(verdict: Verdict) -> bool
     !matches!(verdict, Verdict::Right(_))
 }
 
-fn badness(verdict: Verdict) -> u64
-    ensures { result ≡ badness verdict }
-{
-    match verdict {
-        Verdict::Right(_) => 0,
-        Verdict::Early(_, off) | Verdict::Late(_, off) => u64::from(off),
-        Verdict::Lost(_) => BEYOND,
-        Verdict::Never => BEYOND + 1,
+impl Badness {
+    fn of(verdict: Verdict) -> Badness
+        ensures { (weight result ≡ badness verdict) × Weighed result }
+    {
+        match verdict {
+            Verdict::Right(_) => Badness::Lines(0),
+            Verdict::Early(_, off) | Verdict::Late(_, off) => Badness::Lines(off),
+            Verdict::Lost(_) => Badness::Lost,
+            Verdict::Never => Badness::Never,
+        }
     }
 }
 
@@ -59,7 +66,7 @@ pub fn tallied(tally: Option<Tally>, from: u32, run: Run) -> Option<Tally>
             worst: here,
         });
     };
-    let worse = badness(known.worst.seen.verdict) < badness(run.first.verdict);
+    let worse = Badness::of(known.worst.seen.verdict) < Badness::of(run.first.verdict);
     Some(Tally {
         count: known.count.wrapping_add(clocks),
         first: known.first,

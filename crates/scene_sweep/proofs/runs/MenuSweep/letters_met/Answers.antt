@@ -9,4 +9,4 @@ loop-k-init c = none _ _ _ _
 pub loop-k-preserved : goal.loop-k-preserved
 loop-k-preserved c =
     rw (c.clock.ensures, c.met_with-met.ensures)
-    (more _ _ _ _ _ _ _ c.loop-k.invariant (omega (arith, c.loop-k-test.true, c.ranges.clocks)) _ c.came_in.ensures)
+    (more _ _ _ _ _ _ _ c.loop-k.invariant (omega (arith, c.loop-k-test.true, c.ranges.clocks)) _ c.came_in-step.ensures)
