@@ -1,6 +1,8 @@
 // A scene's writes and menu, played on a board of its own: the interrupt counter, and the banks that the eight slots show.
 ghost use Rattle.std.specs.Prelude.{◌≡◌};
-ghost use Rattle.scene_board.specs.Ended.{done_state, end_of, shown_on, slots_shown};
+ghost use Rattle.vrc6.specs.Boards.{held_by};
+ghost use Rattle.host_creation.specs.Numbers.{created_by};
+ghost use Rattle.scene_board.specs.Ended.{done_state, end_of, shown_on, slots_shown, written_state};
 
 use crate::play;
 use host_creation::{NumberedSettings, create_numbered};
@@ -10,9 +12,10 @@ use memory_pages::Page;
 use scene_banks::bank_shown;
 use scene_steps::Step;
 use vrc6::Board;
+use vrc6::board::Created;
 
-// What a board is created of, settings by numbers, and the steps that are played on it. The changing buffer is a parameter
-// beside it, since a board writes there.
+// What a board is created of, and the steps that are played on it. Settings stay numbers, since their own type would ask more of
+// a caller. The changing buffer is a parameter beside it, since a board writes there.
 #[derive(Clone, Copy)]
 pub struct Scene<'a> {
     pub layout: MemoryLayout,
@@ -37,23 +40,36 @@ pub struct Ended {
 }
 
 // The banks that the first eight entries of the picture side show.
-pub(crate) fn slots_shown(layout: MemoryLayout, pages: [Page; 16]) -> [Option<u32>; 8]
+fn slots_shown(layout: MemoryLayout, pages: [Page; 16]) -> [Option<u32>; 8]
     ensures { result ≡ slots_shown layout pages }
 {
     let [a, b, c, d, e, f, g, h, ..] = pages;
     [a, b, c, d, e, f, g, h].map(|page| bank_shown(layout, page))
 }
 
-fn shown_on(layout: MemoryLayout, board: Board) -> Shown
-    ensures { result ≡ shown_on layout board }
-{
-    Shown {
-        irq: board.irq,
-        banks: slots_shown(layout, board.chr_pages),
-    }
-}
-
 impl Scene<'_> {
+    pub(crate) fn shown_on(self, board: Board) -> Shown
+        ensures { result ≡ shown_on self.entry.layout board }
+    {
+        Shown {
+            irq: board.irq,
+            banks: slots_shown(self.layout, board.chr_pages),
+        }
+    }
+
+    // The board at the end of the writes, beside the number by which its creation was refused, or 0.
+    pub(crate) fn write(self, changing: &mut [u8]) -> Created
+        ensures board { held_by result.board self.entry.fixed.now changing.new
+            ≡ written_state self.entry.layout self.entry.settings self.entry.fixed.now changing.old self.entry.writes.now }
+        ensures refusal { result.refusal ≡ (created_by self.entry.layout self.entry.settings self.entry.fixed.now changing.old).refusal }
+    {
+        let created = create_numbered(self.layout, self.settings, self.fixed, &*changing);
+        Created {
+            board: play(created.board, self.fixed, changing, self.writes),
+            refusal: created.refusal,
+        }
+    }
+
     // No clock changes what slots show, so the menu plays right behind the writes. Of a board that is refused, the number says
     // why, as the board's answers have it; it refuses every call.
     pub fn play(self, changing: &mut [u8]) -> Result<Ended, u8>
@@ -62,15 +78,14 @@ impl Scene<'_> {
         ensures changing_after { changing.new
             ≡ (done_state self.entry.layout self.entry.settings self.entry.fixed.now changing.old self.entry.writes.now self.entry.menu.now).changing }
     {
-        let created = create_numbered(self.layout, self.settings, self.fixed, &*changing);
-        let written = play(created.board, self.fixed, &mut *changing, self.writes);
-        let done = play(written, self.fixed, changing, self.menu);
-        if created.refusal != 0 {
-            return Err(created.refusal);
+        let written = self.write(&mut *changing);
+        let done = play(written.board, self.fixed, changing, self.menu);
+        if written.refusal != 0 {
+            return Err(written.refusal);
         }
         Ok(Ended {
-            written: shown_on(self.layout, written),
-            done: shown_on(self.layout, done),
+            written: self.shown_on(written.board),
+            done: self.shown_on(done),
         })
     }
 }

@@ -29,7 +29,7 @@ fn clocks(given: Board, fixed: &[u8], changing: &mut [u8], n: u32) -> Board
         ≡ after (held_by given fixed.now changing.old) (replicate n Call.Clock) }
 {
     let mut board = given;
-    for i in 0..n {
+    for _ in 0..n {
         board = call(board, fixed, changing, Call::Clock);
     }
     board

@@ -1,11 +1,10 @@
 // What to change in a scene whose window is not right, and writes that reach nothing.
 use crate::checking::Played;
-use crate::scene::Scene;
+use crate::scene::{Scene, Unplayed};
 use registers::{IrqRegister, Register, decode};
 use scene_moments::moment::clocks_due;
 use scene_moments::{Mark, Verdict};
 use scene_steps::Step;
-use std::alloc::AllocError;
 use text_output::{Output, put};
 
 // A step, with another byte where it writes the latch.
@@ -30,23 +29,24 @@ fn unreached(step: Step, revision_b: bool) -> Option<u16> {
     }
 }
 
-impl Scene<'_> {
+impl Scene {
     // Whether the other revision would arm the counter with the same writes.
-    fn armed_by_other(&self) -> bool {
-        self.play_other()
-            .is_some_and(|ended| clocks_due(ended.written.irq).is_some())
+    fn armed_by_other(&self) -> Result<bool, Unplayed> {
+        let ended = self.play_other()?;
+        Ok(clocks_due(ended.written.irq).is_some())
     }
 
     // Why the interrupt never comes.
-    fn tell_never(&self, out: &mut Output) {
-        if self.armed_by_other() {
-            let other = if self.revision_b() { "A" } else { "B" };
+    fn tell_never(&self, out: &mut Output) -> Result<(), Unplayed> {
+        if self.armed_by_other()? {
+            let other = self.other_revision();
             put!(out; "  change: revision {other} would arm it with the same writes\n");
         } else {
             put!(out;
                 "  change: the counter is off: bit 1 of control is clear, or acknowledge or reset turned it off\n"
             );
         }
+        Ok(())
     }
 
     // The first address that reaches nothing, of the writes or else of the menu.
@@ -59,36 +59,41 @@ impl Scene<'_> {
     }
 
     // The writes, with another byte for the latch.
-    fn latched(&self, latch: u8) -> Result<Vec<Step>, AllocError> {
+    fn latched(&self, latch: u8) -> Result<Vec<Step>, Unplayed> {
         let revision_b = self.revision_b();
-        self.writes
+        let writes = self
+            .writes
             .iter()
             .map(|step| with_latch(*step, revision_b, latch))
-            .collect(*self.writes.allocator())
+            .collect(self.alloc())?;
+        Ok(writes)
     }
 
     // Whether the writes with another latch put the interrupt on the line asked.
-    fn is_right_with(&self, latch: u8) -> bool {
-        let Ok(writes) = self.latched(latch) else {
-            return false;
-        };
-        self.play(&writes, &[]).is_some_and(|ended| {
-            let played = Played::new(self, ended);
-            !ended.written.irq.irq_pending && played.verdict.mark() == Mark::Right
-        })
+    fn is_right_with(&self, latch: u8) -> Result<bool, Unplayed> {
+        let writes = self.latched(latch)?;
+        let ended = self.play(&writes, &[])?;
+        let played = Played::new(self, ended);
+        Ok(!ended.written.irq.irq_pending && played.verdict.mark() == Mark::Right)
     }
 }
 
 impl Played<'_> {
     // A latch so many lines nearer or farther, if it puts the interrupt on the line asked: the writes are played with it.
-    fn tell_other_latch(self, out: &mut Output, line: u32, asked: u32) {
+    fn tell_other_latch(
+        self,
+        out: &mut Output,
+        line: u32,
+        asked: u32,
+    ) -> Result<(), Unplayed> {
         let latch = (line
             .wrapping_sub(asked)
             .wrapping_add(u32::from(self.ended.written.irq.reload))
             % 256) as u8;
-        if self.scene.is_right_with(latch) {
+        if self.scene.is_right_with(latch)? {
             put!(out; "  change: F000={latch:02X} would put it on line {asked}\n");
         }
+        Ok(())
     }
 
     // The latch that arms for a line, for writes that end with control in line mode: 256 less the lines to go.
@@ -105,21 +110,22 @@ impl Played<'_> {
     }
 
     // What to change, if a window is asked and the interrupt does not come on it.
-    pub(crate) fn tell_changes(self, out: &mut Output) {
+    pub(crate) fn tell_changes(self, out: &mut Output) -> Result<(), Unplayed> {
         let Some(asked) = self.scene.window else {
-            return;
+            return Ok(());
         };
         if self.ended.written.irq.irq_pending {
-            return;
+            return Ok(());
         }
         match self.verdict {
-            Verdict::Right(_) => {}
+            Verdict::Right(_) => Ok(()),
             Verdict::Early(line, _) | Verdict::Late(line, _) | Verdict::Lost(line) => {
-                self.tell_other_latch(out, line, asked);
+                self.tell_other_latch(out, line, asked)
             }
             Verdict::Never => {
-                self.scene.tell_never(out);
+                self.scene.tell_never(out)?;
                 self.tell_latch(out, asked);
+                Ok(())
             }
         }
     }

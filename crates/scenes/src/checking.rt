@@ -1,6 +1,6 @@
 // A scene that was played: its letters, its window, and the sweep of its menu.
 use crate::letters::{When, are_asked};
-use crate::scene::Scene;
+use crate::scene::{Scene, Unplayed};
 use crate::totals::{Count, Judged, Moments, Outcome};
 use scene_board::Ended;
 use scene_moments::moment::{came_after, came_alone, clocks_due};
@@ -8,13 +8,13 @@ use scene_moments::{Came, Mark, Screen, Verdict, Window};
 use scene_report::Told;
 use scene_report::sweeping::sweep_clocks;
 use scene_steps::letters::slots_right;
-use scene_sweep::Sweep;
+use scene_sweep::{MenuSweep, Sweep};
 use text_output::{Output, put};
 
 // A scene behind its writes, without its menu.
 #[derive(Clone, Copy)]
 pub struct Played<'a> {
-    pub scene: &'a Scene<'a>,
+    pub scene: &'a Scene,
     pub ended: Ended,
     // The line that is right is the one asked, or where none is, that of the interrupt without the menu.
     pub window: Window,
@@ -39,7 +39,7 @@ impl Checked {
 }
 
 impl<'a> Played<'a> {
-    pub(crate) fn new(scene: &'a Scene<'a>, ended: Ended) -> Played<'a> {
+    pub(crate) fn new(scene: &'a Scene, ended: Ended) -> Played<'a> {
         let irq = ended.written.irq;
         let alone = came_alone(irq);
         let screen = Screen::at(scene.at, irq.prescalar_counter);
@@ -58,10 +58,14 @@ impl<'a> Played<'a> {
         }
     }
 
-    pub(crate) fn sweep(self) -> Sweep {
-        Sweep {
+    pub(crate) fn sweep(self) -> MenuSweep<'a> {
+        let sweep = Sweep {
             window: self.window,
             revision_b: self.scene.revision_b(),
+        };
+        MenuSweep {
+            sweep,
+            menu: &self.scene.menu,
         }
     }
 
@@ -125,30 +129,30 @@ impl<'a> Played<'a> {
         }
     }
 
-    fn check_menu(self, out: &mut Output) -> Checked {
+    fn check_menu(self, out: &mut Output) -> Result<Checked, Unplayed> {
         let irq = self.ended.written.irq;
         if self.scene.menu.is_empty() {
-            return Checked::unswept(true);
+            return Ok(Checked::unswept(true));
         }
         if irq.irq_pending {
             put!(out; "  menu: not swept, as the interrupt is pending already\n");
-            return Checked::unswept(true);
+            return Ok(Checked::unswept(true));
         }
         let Some(clocks) = clocks_due(irq) else {
-            return self.check_arming(out);
+            return Ok(self.check_arming(out));
         };
-        let right = self.tell_inside(out, clocks);
-        let swept = sweep_clocks(self.sweep(), irq, clocks, &self.scene.menu, out);
+        let right = self.tell_inside(out, clocks)?;
+        let swept = sweep_clocks(self.sweep(), irq, clocks, out);
         put!(out; "{swept}");
         let wrong = swept.tally.map_or(0, |tally| tally.count);
         let moments = Moments {
             swept: clocks,
             wrong,
         };
-        Checked {
+        Ok(Checked {
             right: right && wrong == 0,
             moments: Some(moments),
-        }
+        })
     }
 
     // Whether what was asked without the menu, and of the letters behind it, is so. An empty menu leaves the slots as they are.
@@ -176,21 +180,21 @@ impl<'a> Played<'a> {
 }
 
 // Tells what a scene came to that was played so.
-pub(crate) fn check(scene: &Scene, ended: Ended, out: &mut Output) -> Outcome {
+pub(crate) fn check(scene: &Scene, ended: Ended, out: &mut Output) -> Result<Outcome, Unplayed> {
     let played = Played::new(scene, ended);
     When::AtEnd.tell(out, ended.written.banks, scene.asked);
     played.tell_window(out);
-    played.tell_changes(out);
+    played.tell_changes(out)?;
     scene.tell_unreached(out);
     if !scene.menu.is_empty() {
         When::AfterMenu.tell(out, ended.done.banks, scene.asked);
     }
-    let menu = played.check_menu(out);
+    let menu = played.check_menu(out)?;
     let judged = played.judged(menu);
     put!(out; "  verdict: {judged}");
     if let Some(all) = menu.moments {
         put!(out; ", {}, {} wrong", Count::of_moments(u64::from(all.swept)), all.wrong);
     }
     put!(out; "\n");
-    Outcome::Played(judged, menu.moments)
+    Ok(Outcome::Played(judged, menu.moments))
 }

@@ -1,6 +1,7 @@
 // An interrupt that comes while the menu waits meets the letters that the menu has written so far.
 use crate::checking::Played;
 use crate::letters::{When, are_asked};
+use crate::scene::Unplayed;
 use scene_steps::Step;
 use scene_sweep::Met;
 use text_output::Output;
@@ -12,24 +13,24 @@ impl Played<'_> {
         if steps.any(|(step, marked)| *marked && matches!(step, Step::Clocks(_))) {
             return self
                 .sweep()
-                .letters_met(self.ended.written.irq, clocks, &self.scene.menu, marks);
+                .letters_met(self.ended.written.irq, clocks, marks);
         }
         None
     }
 
     // The slots that are wrong where the first such interrupt comes. Hands back whether there is none.
-    pub(crate) fn tell_inside(self, out: &mut Output, clocks: u32) -> bool {
+    pub(crate) fn tell_inside(self, out: &mut Output, clocks: u32) -> Result<bool, Unplayed> {
         let scene = self.scene;
         if !are_asked(scene.asked) {
-            return true;
+            return Ok(true);
         }
-        let Some(met) = self.met(clocks, &scene.marks()) else {
-            return true;
+        let marks = scene.marks()?;
+        let Some(met) = self.met(clocks, &marks) else {
+            return Ok(true);
         };
         let begun = scene.menu.get(..met.step).unwrap_or(&scene.menu);
-        if let Some(ended) = scene.play(&scene.writes, begun) {
-            When::Inside(met).tell_wrong(out, ended.done.banks, scene.asked);
-        }
-        false
+        let ended = scene.play(&scene.writes, begun)?;
+        When::Inside(met).tell_wrong(out, ended.done.banks, scene.asked);
+        Ok(false)
     }
 }

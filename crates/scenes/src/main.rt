@@ -17,8 +17,8 @@ mod sheet;
 mod source;
 mod totals;
 
-use crate::sheet::{MOST_BYTES, run};
-use cartridge_files::{fail, open_read};
+use crate::sheet::{Folder, MOST_BYTES, run};
+use cartridge_files::{fail, open_read, read_first};
 use program_arguments::Arguments;
 use scene_cells::spaces::blank_spaces;
 use std::alloc::Global;
@@ -27,8 +27,7 @@ use text_output::{Output, put};
 
 // The text of a sheet, or one byte more than a sheet may have. A no-break space counts as a blank.
 fn read_sheet<F: Read + Drop>(alloc: Global, file: F) -> Result<Vec<u8>, Error> {
-    let mut text = Vec::new(alloc);
-    file.take(MOST_BYTES as u64 + 1).read_to_end(&mut text)?;
+    let mut text = read_first(alloc, file, MOST_BYTES + 1)?;
     blank_spaces(&mut text);
     Ok(text)
 }
@@ -41,16 +40,16 @@ fn tell_unread(rt: &HostRuntime, name: &[u8], error: Error, out: &mut Output) {
     out.flush();
 }
 
-// The names of cartridge files are taken from the folder of the sheet's path.
-fn play<F: Read + Drop>(rt: &HostRuntime, file: F, name: &[u8], path: &[u8], out: &mut Output) {
-    match read_sheet(rt.alloc(), file) {
-        Ok(text) => run(rt, path, &text, out),
-        Err(error) => tell_unread(rt, name, error, out),
+fn play<F: Read + Drop>(folder: Folder, file: F, name: &[u8], out: &mut Output) {
+    match read_sheet(folder.rt.alloc(), file) {
+        Ok(text) => run(folder, &text, out),
+        Err(error) => tell_unread(folder.rt, name, error, out),
     }
 }
 
 fn play_input(rt: &HostRuntime, out: &mut Output) {
-    play(rt, rt.stdin(), b"standard input", b"", out);
+    let folder = Folder { rt, path: b"" };
+    play(folder, rt.stdin(), b"standard input", out);
 }
 
 // A path that is `-` alone stands for standard input.
@@ -60,7 +59,7 @@ fn play_file(rt: &HostRuntime, path: &[u8], out: &mut Output) {
         return;
     }
     match open_read(rt, path) {
-        Ok(file) => play(rt, file, path, path, out),
+        Ok(file) => play(Folder { rt, path }, file, path, out),
         Err(error) => tell_unread(rt, path, error, out),
     }
 }

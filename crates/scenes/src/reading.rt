@@ -6,13 +6,13 @@ use crate::scene::Scene;
 use crate::sheet::Sheet;
 use crate::source::{read_source, unfiled};
 use cartridge::Cartridge;
-use host_creation::NumberedSettings;
 use scene_cells::columns::Column;
 use scene_files::said::{layout_for, said_in};
 use scene_files::singles::{Said, SingleError, single_of};
 use scene_steps::picture::{At, AtError, at_in};
 use text_output::Output;
 use text_words::{is_empty, next_word};
+use vrc6_banking::banking::{Mirroring, Revision};
 
 // What is wrong with a cell that has no value of its column.
 fn no_value(column: Column) -> WordFault {
@@ -107,12 +107,8 @@ impl Reader<'_> {
 }
 
 // The whole row. All cells are read before a fault ends the work.
-pub(crate) fn read_scene<'a>(
-    sheet: Sheet<'a>,
-    row: Row,
-    out: &mut Output,
-) -> Result<Scene<'a>, Told> {
-    let source = read_source(sheet.rt, sheet.path, row, out);
+pub(crate) fn read_scene(sheet: Sheet, row: Row, out: &mut Output) -> Result<Scene, Told> {
+    let source = read_source(sheet.folder, row, out);
     let file = source.unwrap_or(None);
     let reader = Reader { row, file };
     let prg = reader.single(out, Column::Prg);
@@ -122,15 +118,15 @@ pub(crate) fn read_scene<'a>(
     let window = reader.window(out);
     let at = reader.at(out);
     let interrupts = reader.single(out, Column::Interrupts);
-    let alloc = sheet.rt.alloc();
+    let alloc = sheet.folder.rt.alloc();
     let writes = read_steps(alloc, row, Column::Writes, out);
     let menu = read_steps(alloc, row, Column::Menu, out);
     let asked = read_letters(row, out);
     source?;
     Ok(Scene {
         layout: layout_for(file.unwrap_or(unfiled()), file.is_some(), prg?, chr?),
-        settings: NumberedSettings::new((mirroring? % 256) as u8, (revision? % 256) as u8),
-        rom: sheet.rom,
+        mirroring: Mirroring::try_from((mirroring? % 256) as u8).unwrap_or(Mirroring::Vertical),
+        revision: Revision::try_from((revision? % 256) as u8).unwrap_or(Revision::A),
         window: window?,
         at: at?,
         unmasked: interrupts? == 1,

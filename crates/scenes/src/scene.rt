@@ -2,31 +2,44 @@
 // in crate vrc6_ledger.
 use crate::letters::Banks;
 use host_creation::NumberedSettings;
-use memory_layout::MemoryLayout;
+use memory_layout::{LimitedLayout, MemoryLayout};
 use scene_board::{Ended, Scene as BoardScene};
 use scene_steps::Step;
 use scene_steps::picture::At;
-
-// The longest fixed buffer that a layout can ask. No step reads a byte of ROM, so its bytes are 0, whatever a file holds. It is
-// a function, since a literal of this length gets no proof where a slice is taken of it.
-pub(crate) fn rom() -> [u8; 525312] {
-    [0; 525312]
-}
-
-// PRG RAM, CHR that is RAM, and CIRAM of four screens: more than any row asks.
-fn ram() -> [u8; 20480] {
-    [0; 20480]
-}
+use std::alloc::{AllocError, Global};
+use std::fmt;
+use vrc6_banking::banking::{Mirroring, Revision};
 
 // The most steps that a cell may have.
 pub const MOST_STEPS: usize = 4096;
 
+// Why steps are not played.
+#[derive(Clone, Copy)]
+pub enum Unplayed {
+    NoBoard,
+    OutOfMemory,
+}
+
+impl From<AllocError> for Unplayed {
+    fn from(_: AllocError) -> Unplayed {
+        Unplayed::OutOfMemory
+    }
+}
+
+impl fmt::Display for Unplayed {
+    fn fmt<W: fmt::Write>(&self, f: &mut fmt::Formatter<W>) -> fmt::Result {
+        f.write_str(match self {
+            Unplayed::NoBoard => "no board takes these lengths",
+            Unplayed::OutOfMemory => "out of memory",
+        })
+    }
+}
+
 #[derive(Drop)]
-pub struct Scene<'a> {
+pub struct Scene {
     pub layout: MemoryLayout,
-    pub settings: NumberedSettings,
-    // The bytes that a board's fixed buffer is cut from.
-    pub rom: &'a [u8],
+    pub mirroring: Mirroring,
+    pub revision: Revision,
     // The line on which the interrupt must come, if one is given.
     pub window: Option<u32>,
     pub at: Option<At>,
@@ -37,58 +50,84 @@ pub struct Scene<'a> {
     pub asked: Banks,
 }
 
-// As much RAM as a layout asks.
-fn changing(ram: &mut [u8], layout: MemoryLayout) -> Option<&mut [u8]> {
-    let length = layout.limited()?.changing_length() as usize;
-    ram.get_mut(..length)
-}
-
-fn play(scene: BoardScene) -> Option<Ended> {
-    let mut ram = ram();
-    scene.play(changing(&mut ram, scene.layout)?).ok()
-}
-
-impl Scene<'_> {
+impl Scene {
     pub(crate) fn revision_b(&self) -> bool {
-        self.settings.revision == 1
+        self.revision == Revision::B
     }
 
-    // These steps, with a board of the row's settings.
-    fn on_board<'b>(&'b self, writes: &'b [Step], menu: &'b [Step]) -> Option<BoardScene<'b>> {
-        let length = self.layout.limited()?.fixed_length() as usize;
-        Some(BoardScene {
+    pub(crate) fn other_revision(&self) -> Revision {
+        match self.revision {
+            Revision::A => Revision::B,
+            Revision::B => Revision::A,
+        }
+    }
+
+    pub(crate) fn alloc(&self) -> Global {
+        *self.writes.allocator()
+    }
+
+    fn limited(&self) -> Result<LimitedLayout, Unplayed> {
+        self.layout.limited().ok_or(Unplayed::NoBoard)
+    }
+
+    // A board's fixed buffer. No step reads a byte of ROM, so its bytes are 0, whatever a file holds.
+    fn fixed(&self) -> Result<Vec<u8>, Unplayed> {
+        let length = self.limited()?.fixed_length() as usize;
+        Ok(vec![in self.alloc(); 0; length]?)
+    }
+
+    fn changing(&self) -> Result<Vec<u8>, Unplayed> {
+        let length = self.limited()?.changing_length() as usize;
+        Ok(vec![in self.alloc(); 0; length]?)
+    }
+
+    // These steps, with a board of the row's layout and mirroring, and of a revision.
+    fn on_board<'a>(
+        &self,
+        revision: Revision,
+        fixed: &'a [u8],
+        writes: &'a [Step],
+        menu: &'a [Step],
+    ) -> BoardScene<'a> {
+        BoardScene {
             layout: self.layout,
-            settings: self.settings,
-            fixed: self.rom.get(..length)?,
+            settings: NumberedSettings::new(u8::from(self.mirroring), u8::from(revision)),
+            fixed,
             writes,
             menu,
-        })
+        }
+    }
+
+    fn play_by(
+        &self,
+        revision: Revision,
+        writes: &[Step],
+        menu: &[Step],
+    ) -> Result<Ended, Unplayed> {
+        let fixed = self.fixed()?;
+        let mut changing = self.changing()?;
+        self.on_board(revision, &fixed, writes, menu)
+            .play(&mut changing)
+            .map_err(|_| Unplayed::NoBoard)
     }
 
     // Plays writes and a menu.
-    pub(crate) fn play(&self, writes: &[Step], menu: &[Step]) -> Option<Ended> {
-        play(self.on_board(writes, menu)?)
+    pub(crate) fn play(&self, writes: &[Step], menu: &[Step]) -> Result<Ended, Unplayed> {
+        self.play_by(self.revision, writes, menu)
     }
 
     // Plays the writes of the row with the other revision.
-    pub(crate) fn play_other(&self) -> Option<Ended> {
-        let revision = u8::from(!self.revision_b());
-        play(BoardScene {
-            settings: NumberedSettings::new(self.settings.mirroring, revision),
-            ..self.on_board(&self.writes, &[])?
-        })
+    pub(crate) fn play_other(&self) -> Result<Ended, Unplayed> {
+        self.play_by(self.other_revision(), &self.writes, &[])
     }
 
     // Which steps of the menu begin with wrong letters.
-    pub(crate) fn marks(&self) -> [bool; MOST_STEPS] {
-        let mut marks = [false; MOST_STEPS];
-        let mut ram = ram();
-        let Some(changing) = changing(&mut ram, self.layout) else {
-            return marks;
-        };
-        if let Some(scene) = self.on_board(&self.writes, &self.menu) {
-            scene.mark_letters(changing, self.asked, &mut marks);
-        }
-        marks
+    pub(crate) fn marks(&self) -> Result<Vec<bool>, Unplayed> {
+        let fixed = self.fixed()?;
+        let mut changing = self.changing()?;
+        let mut marks = vec![in self.alloc(); false; self.menu.len()]?;
+        self.on_board(self.revision, &fixed, &self.writes, &self.menu)
+            .mark_letters(&mut changing, self.asked, &mut marks);
+        Ok(marks)
     }
 }

@@ -4,7 +4,7 @@ use crate::faults::{Fault, put_cell};
 use crate::header::Header;
 use crate::reading::read_scene;
 use crate::row::{Row, Shape};
-use crate::scene::rom;
+use crate::scene::{Scene, Unplayed};
 use crate::totals::{Outcome, Totals};
 use scene_cells::columns::Column;
 use std::fmt;
@@ -40,15 +40,18 @@ impl fmt::Display for SheetFault {
     }
 }
 
+// Where a sheet lies: names of cartridge files are taken from the folder of its path.
+#[derive(Clone, Copy)]
+pub struct Folder<'a> {
+    pub rt: &'a HostRuntime,
+    pub path: &'a [u8],
+}
+
 // A sheet that is played.
 #[derive(Clone, Copy)]
 pub struct Sheet<'a> {
-    pub rt: &'a HostRuntime,
-    // Names of cartridge files are taken from its folder.
-    pub path: &'a [u8],
+    pub folder: Folder<'a>,
     pub header: Header<'a>,
-    // What the fixed buffers of boards are cut from.
-    pub rom: &'a [u8],
 }
 
 // Whether a text begins with the mark of UTF-16, in either order of its two bytes.
@@ -93,6 +96,11 @@ fn put_name(out: &mut Output, row: Row) {
     put!(out; "\n");
 }
 
+fn check_played(scene: &Scene, out: &mut Output) -> Result<Outcome, Unplayed> {
+    let ended = scene.play(&scene.writes, &scene.menu)?;
+    check(scene, ended, out)
+}
+
 impl Sheet<'_> {
     // A row whose quotes are right and which is not blank.
     fn play_scene(self, row: Row, out: &mut Output) -> Outcome {
@@ -100,10 +108,10 @@ impl Sheet<'_> {
             return Outcome::Bad;
         };
         put_name(out, row);
-        match scene.play(&scene.writes, &scene.menu) {
-            Some(ended) => check(&scene, ended, out),
-            None => {
-                put!(out; "  no board takes these lengths\n");
+        match check_played(&scene, out) {
+            Ok(outcome) => outcome,
+            Err(unplayed) => {
+                put!(out; "  {unplayed}\n");
                 Outcome::Bad
             }
         }
@@ -143,32 +151,25 @@ impl Sheet<'_> {
             };
             let shape = row.read(out);
             totals.add(self.play_row(row, shape, out));
-            told = tell(self.rt.stderr(), number, totals.swept(), told);
+            told = tell(self.folder.rt.stderr(), number, totals.swept(), told);
             rest = shape.rest;
         }
         totals
     }
 }
 
-// Plays the sheet with this path and text.
-fn play(rt: &HostRuntime, path: &[u8], text: &[u8], out: &mut Output) -> Result<(), SheetFault> {
+// Plays the sheet with this text.
+fn play(folder: Folder, text: &[u8], out: &mut Output) -> Result<(), SheetFault> {
     check_text(text)?;
     let header = Header::read(text, out)?;
-    let rom = rom();
-    let sheet = Sheet {
-        rt,
-        path,
-        header,
-        rom: &rom,
-    };
-    let totals = sheet.play_rows(out);
+    let totals = Sheet { folder, header }.play_rows(out);
     put!(out; "{totals}");
     Ok(())
 }
 
 // Plays it, or says that nothing was played.
-pub(crate) fn run(rt: &HostRuntime, path: &[u8], text: &[u8], out: &mut Output) {
-    if let Err(fault) = play(rt, path, text, out) {
+pub(crate) fn run(folder: Folder, text: &[u8], out: &mut Output) {
+    if let Err(fault) = play(folder, text, out) {
         put!(out; "{fault}nothing was played\n");
     }
     out.flush();

@@ -1,13 +1,13 @@
 // What a row's sizes, revision and mirroring come from: the cartridge file that it names, or its cells.
 use crate::faults::{Told, WordFault};
 use crate::row::Row;
+use crate::sheet::Folder;
 use cartridge::Cartridge;
 use cartridge_files::read_file;
 use cartridge_header::read_header;
 use memory_layout::MemoryLayout;
 use scene_cells::columns::Column;
 use scene_paths::{name_in, path_of};
-use std::rt::Files;
 use text_output::Output;
 use vrc6_banking::banking::{Mirroring, Revision};
 
@@ -31,7 +31,7 @@ pub(crate) fn unfiled() -> Cartridge {
     }
 }
 
-fn cartridge_at(rt: &(impl Files + AllocGlobal), path: &[u8]) -> Result<Cartridge, WordFault> {
+fn cartridge_at(rt: &HostRuntime, path: &[u8]) -> Result<Cartridge, WordFault> {
     match read_file(rt, path) {
         Ok(file) => read_header(&file).map_err(WordFault::Refused),
         Err(_) => Err(WordFault::Unread),
@@ -39,22 +39,16 @@ fn cartridge_at(rt: &(impl Files + AllocGlobal), path: &[u8]) -> Result<Cartridg
 }
 
 // The file that a cell of a sheet names.
-fn cartridge_named(
-    rt: &(impl Files + AllocGlobal),
-    sheet: &[u8],
-    cell: &[u8],
-    quoted: bool,
-) -> Result<Cartridge, WordFault> {
-    match path_of::<MOST_PATH>(sheet, cell, quoted) {
-        Some(path) => cartridge_at(rt, path.as_slice()),
+fn cartridge_named(folder: Folder, cell: &[u8], quoted: bool) -> Result<Cartridge, WordFault> {
+    match path_of::<MOST_PATH>(folder.path, cell, quoted) {
+        Some(path) => cartridge_at(folder.rt, path.as_slice()),
         None => Err(WordFault::Unread),
     }
 }
 
 // What the row's file says, if it names one. A relative name is taken from the sheet's folder.
 pub(crate) fn read_source(
-    rt: &(impl Files + AllocGlobal),
-    sheet: &[u8],
+    folder: Folder,
     row: Row,
     out: &mut Output,
 ) -> Result<Option<Cartridge>, Told> {
@@ -65,7 +59,7 @@ pub(crate) fn read_source(
     if name.is_empty() {
         return Ok(None);
     }
-    match cartridge_named(rt, sheet, cell.bytes, cell.quoted) {
+    match cartridge_named(folder, cell.bytes, cell.quoted) {
         Ok(cartridge) => Ok(Some(cartridge)),
         Err(fault) => {
             row.tell_word(out, Column::File, name, fault);
