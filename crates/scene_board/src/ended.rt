@@ -12,7 +12,7 @@ use memory_pages::Page;
 use scene_banks::bank_shown;
 use scene_steps::Step;
 use vrc6::Board;
-use vrc6::board::Created;
+use vrc6::board::Changed;
 
 // What a board is created of, and the steps that are played on it. Settings stay numbers, since their own type would ask more of
 // a caller. The changing buffer is a parameter beside it, since a board writes there.
@@ -58,13 +58,13 @@ impl Scene<'_> {
     }
 
     // The board at the end of the writes, beside the number by which its creation was refused, or 0.
-    pub(crate) fn write(self, changing: &mut [u8]) -> Created
+    pub(crate) fn write(self, changing: &mut [u8]) -> Changed
         ensures board { held_by result.board self.entry.fixed.now changing.new
             ≡ written_state self.entry.layout self.entry.settings self.entry.fixed.now changing.old self.entry.writes.now }
         ensures refusal { result.refusal ≡ (created_by self.entry.layout self.entry.settings self.entry.fixed.now changing.old).refusal }
     {
         let created = create_numbered(self.layout, self.settings, self.fixed, &*changing);
-        Created {
+        Changed {
             board: play(created.board, self.fixed, changing, self.writes),
             refusal: created.refusal,
         }

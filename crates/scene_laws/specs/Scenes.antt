@@ -34,7 +34,7 @@ sweep_of c screen window unmasked = record { window = record { screen = screen; 
 pub record SceneOf (c : Creation) (writes menu : List (List ℕ)) (e : Ended) : Type 0 where
   pub written : e.written ≡ shown_on c.layout (scene_written c writes).board
   pub behind : e.done ≡ shown_on c.layout (after (scene_written c writes) (calls_of (steps_of menu))).board
-  -- pending clear, and a run that the contract of `Sweep::run` allows: each clock of it has on the board what it says
+  -- pending clear, and a run that the contract of `MenuSweep::run` allows: each clock of it has on the board what it says
   pub sweep : e.written.irq.irq_pending ≡ false → length menu ≤ 4_096 → (screen : Screen) (window : ℕ) (unmasked : Bool) (from n : ℕ)
       → clocks_due e.written.irq ≡ Some n → (r : Run)
       → RunOf (sweep_of c screen window unmasked) (steps_of menu) (irq_clocked_times line_step line_length from e.written.irq) from n r

@@ -59,7 +59,7 @@ pub record HasVerdict (x : State) (j : ℕ) (steps : List Step) (m : ℕ) (s : S
   pub cleared : Within r.cleared (cleared_of came)
 
 -- of every accepted creation, every list of calls before that leaves pending clear, every menu of up to 4,096 words, every screen and line that
--- is right, handlers that leave interrupts open or not, and every run that the contract of `Sweep::run` allows: each clock of the run has
+-- is right, handlers that leave interrupts open or not, and every run that the contract of `MenuSweep::run` allows: each clock of the run has
 -- on the board what the run says
 abbrev pub SweepLaw : Type 0
 SweepLaw =

@@ -23,6 +23,7 @@ pub enum Moment {
 
 // The clock on which the interrupt comes. Of one that comes inside the handler, the clocks on which it is set and on which the
 // handler ends, with it pending, or clears it.
+// `Never` is a case and no None, since a verdict has that case too.
 #[derive(Clone, Copy, PartialEq, Eq)]
 pub enum Came {
     Never,
