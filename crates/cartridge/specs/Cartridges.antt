@@ -1,5 +1,5 @@
 -- The cartridge that a header states, from numbers already worked out (02, change 2). Assumes nothing.
-use Rattle.std.specs.Prelude.{Bool, cond, ◌&&◌, ◌||◌, ℕ, ◌+◌, ◌*◌, eqb, leb}
+use Rattle.std.specs.Prelude.{Bool, cond, ◌&&◌, ◌||◌, ℕ, ◌+◌, ◌*◌, eqb, leb, Option, Some, None}
 use Rattle.memory_layout.specs.declared.regions.MemoryLayout.{MemoryLayout}
 use Rattle.memory_layout.specs.Layout.{within_limits}
 use Rattle.vrc6_slots.specs.declared.Mirroring.{Mirroring}
@@ -12,6 +12,10 @@ use Rattle.cartridge.specs.declared.cartridge.Cartridge.{Cartridge}
 -- the mapper is one of the board's: 24 or 26 (02, change 2)
 abbrev pub is_vrc6 : NesHeader → Bool
 is_vrc6 h = eqb h.mapper_num 24 || eqb h.mapper_num 26
+
+-- 24 is revision A's, 26 B's (02, change 2)
+abbrev pub mapper_revision : NesHeader → Option Revision
+mapper_revision h = cond (eqb h.mapper_num 24) (Some A) (cond (eqb h.mapper_num 26) (Some B) None)
 
 -- 24 is revision A, 26 is B (02, change 2)
 abbrev pub stated_revision : NesHeader → Revision

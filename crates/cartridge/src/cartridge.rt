@@ -1,11 +1,12 @@
 // From what a header states, in numbers already worked out, to the cartridge. No byte of a file is looked at here.
 ghost use Rattle.std.specs.Prelude.{◌≡◌, ◌≤◌};
-ghost use Rattle.cartridge.specs.Cartridges.{cartridge_of, chr_start, file_end, fits, is_vrc6, prg_start, stated_chr, stated_ciram, stated_layout, stated_mirroring, stated_revision};
+ghost use Rattle.cartridge.specs.Cartridges.{cartridge_of, chr_start, file_end, fits, is_vrc6, mapper_revision, prg_start, stated_chr, stated_ciram, stated_layout, stated_mirroring};
 
 use memory_layout::MemoryLayout;
 use vrc6_banking::banking::{Mirroring, Revision};
 
-// What a header states: lengths of ROM in the header's units, those of RAM in bytes.
+// What a header states: lengths of ROM in the header's units, those of RAM in bytes. The fields are the Rust's `NesHeader` by name, 0
+// banks of CHR included.
 #[derive(Clone, Copy, Debug, PartialEq, Eq)]
 pub struct NesHeader {
     pub mapper_num: u16,
@@ -32,19 +33,21 @@ pub struct Cartridge {
 }
 
 impl NesHeader {
+    // The revision whose mapper this is.
+    fn mapper_revision(self) -> Option<Revision>
+        ensures { result ≡ mapper_revision self }
+    {
+        match self.mapper_num {
+            24 => Some(Revision::A),
+            26 => Some(Revision::B),
+            _ => None,
+        }
+    }
+
     pub fn is_vrc6(self) -> bool
         ensures { result ≡ is_vrc6 self }
     {
-        (self.mapper_num == 24) | (self.mapper_num == 26)
-    }
-
-    fn revision(self) -> Revision
-        ensures { result ≡ stated_revision self }
-    {
-        match self.mapper_num {
-            26 => Revision::B,
-            _ => Revision::A,
-        }
+        self.mapper_revision().is_some()
     }
 
     // Four screens are stronger than the bit for vertical.
@@ -119,7 +122,7 @@ impl NesHeader {
         Cartridge {
             layout: self.layout(),
             mirroring: self.mirroring(),
-            revision: self.revision(),
+            revision: self.mapper_revision().unwrap_or(Revision::A),
             prg_start: self.prg_start(),
             chr_start: self.chr_start(),
         }

@@ -4,7 +4,7 @@
 ghost use Rattle.std.specs.Prelude.{◌≡◌};
 ghost use Rattle.cartridge_header.specs.Ines.{file_byte, is_ines, is_newer, mapper_number, read_header, stated_by};
 
-use base_shared::Refusal;
+use base_shared::{Refusal, bit};
 use cartridge::{Cartridge, NesHeader};
 
 // A byte of the file, 0 past its end.
@@ -26,7 +26,7 @@ fn is_newer(file: &[u8]) -> bool
     ensures { result ≡ is_newer file.now }
 {
     let seven = byte_at(file, 7);
-    (seven / 8 % 2 == 1) & !(seven / 4 % 2 == 1)
+    bit(seven, 3) & !bit(seven, 2)
 }
 
 // Byte 7's high four bits above byte 6's.
@@ -49,9 +49,9 @@ fn stated_by(file: &[u8]) -> NesHeader
         chr_rom_banks: u16::from(byte_at(file, 5)),
         prg_ram: 8192,
         chr_ram: 8192,
-        vertical: flags % 2 == 1,
-        trainer: flags / 4 % 2 == 1,
-        four_screens: flags / 8 % 2 == 1,
+        vertical: bit(flags, 0),
+        trainer: bit(flags, 2),
+        four_screens: bit(flags, 3),
     }
 }
 

@@ -1,2 +1,2 @@
-pub mod Letters
 pub mod Numbers
+pub mod Reports

@@ -4,7 +4,8 @@ use Rattle.std.specs.Fmt.{decimal}
 use Rattle.base_shared.specs.Numbers.{number}
 use Rattle.base_shared.specs.declared.Refusal.{Refusal}
 use Rattle.cartridge.specs.declared.cartridge.Cartridge.{Cartridge}
-use Rattle.cartridge_report.specs.Letters.{mirroring_letter, revision_letter}
+use Rattle.vrc6_slots.specs.Numbered.{mirroring_letter}
+use Rattle.vrc6_banking.specs.Banking.{revision_letter}
 
 -- ram or rom (oracle/FORMAT.md; 02, change 2)
 abbrev pub kind_text : Bool → List ℕ

@@ -2,7 +2,6 @@
 ghost use Rattle.std.specs.Prelude.{◌≡◌, Some};
 ghost use Rattle.cartridge_report.specs.Numbers.{answer_text, cartridge_text, kind_text};
 
-use crate::letters::{mirroring_letter, revision_letter};
 use base_shared::Refusal;
 use cartridge::Cartridge;
 use std::fmt;
@@ -28,8 +27,8 @@ impl Display for Words {
         write!(f, "{} {} ", layout.prg_rom, layout.chr)?;
         write!(f, "{} ", kind(layout.chr_writable))?;
         write!(f, "{} {} ", layout.prg_ram, layout.ciram)?;
-        write!(f, "{} ", mirroring_letter(cartridge.mirroring))?;
-        write!(f, "{} ", revision_letter(cartridge.revision))?;
+        write!(f, "{} ", cartridge.mirroring)?;
+        write!(f, "{} ", cartridge.revision)?;
         write!(f, "{} {}", cartridge.prg_start, cartridge.chr_start)
     }
 }
