@@ -10,7 +10,8 @@ use std::marker::Model;
 // The bytes of the longest path.
 pub const LONGEST: usize = 4096;
 
-// One argument, in a buffer that the environment fills. A longer one than any path counts as empty.
+// One argument, in a buffer that the environment fills: a Vec would take memory, and an argument could fail. A longer one than any path
+// counts as empty.
 #[derive(Drop)]
 pub struct Argument {
     space: [u8; LONGEST],

@@ -1,7 +1,6 @@
 // What is wrong with a row, as a line: the row, the column, and what is wrong.
 use base_shared::Refusal;
 use cartridge_report::Refused;
-use cartridge_report::letters::{mirroring_letter, revision_letter};
 use scene_cells::columns::Column;
 use scene_steps::letters::PairError;
 use scene_steps::picture::AtError;
@@ -58,8 +57,8 @@ impl fmt::Display for FileSays {
     fn fmt<W: fmt::Write>(&self, f: &mut fmt::Formatter<W>) -> fmt::Result {
         match self {
             FileSays::Length(bytes) => write!(f, "{bytes}"),
-            FileSays::Revision(revision) => f.write_str(revision_letter(*revision)),
-            FileSays::Mirroring(mirroring) => f.write_str(mirroring_letter(*mirroring)),
+            FileSays::Revision(revision) => write!(f, "{revision}"),
+            FileSays::Mirroring(mirroring) => write!(f, "{mirroring}"),
         }
     }
 }
