@@ -1,3 +1,4 @@
 pub mod Rule
 pub mod Required
+pub mod Rings
 pub mod Laws

@@ -7,16 +7,18 @@ use crate::bank_count;
 use memory_layout::Region;
 use memory_pages::Page;
 
-// That it is closed is asked by a clause, and is no ghost field: definitions and laws speak of rings of any region, also of one
-// that no layout has.
+// Definitions and laws speak of rings of any region, also of one that no layout has, and so of plain ones (specs/Required.antt).
 #[derive(Clone, Copy, Debug, PartialEq, Eq)]
 pub struct PageRing {
     pub first: Page,
     // How many pages there are, at least 1.
     pub count: u32,
+    ghost closed: { Closed first count },
 }
 
 impl PageRing {
+    ghost use Rattle.memory_rule.specs.Rings.{ring};
+
     // Shows the page of zeros all round.
     pub const UNMAPPED: PageRing = PageRing {
         first: Page::UNMAPPED,
@@ -25,7 +27,7 @@ impl PageRing {
 
     pub fn of(region: Region) -> PageRing
         requires { Whole region }
-        ensures { (result ≡ ring_of region) × Closed result }
+        ensures { ring result ≡ ring_of region }
     {
         if region.len == 0 {
             return PageRing::UNMAPPED;
@@ -38,7 +40,6 @@ impl PageRing {
 
     // Counts n pages round the ring.
     fn round(self, n: u32) -> u32
-        requires { Closed self }
         ensures { (result ≡ n % self.count) × (result < self.count) }
     {
         // The usual number is below the count, and then a division is saved.
@@ -50,15 +51,14 @@ impl PageRing {
 
     // Page n, counted round the ring.
     pub fn page(self, n: u32) -> Page
-        requires { Closed self }
-        ensures { result ≡ ring_page self n }
+        ensures { result ≡ ring_page (ring self) n }
     {
         self.first.pages_on(self.round(n))
     }
 
     // The number of the page behind page n.
     fn behind(self, n: u32) -> u32
-        requires { (Closed self) × (n < self.count) }
+        requires { n < self.count }
         ensures { (result ≡ (n + 1) % self.count) × (result < self.count) }
     {
         let next = n + 1;
@@ -70,8 +70,7 @@ impl PageRing {
 
     // A page in each entry, round the ring from its first.
     pub fn show(self, window: &mut [Page])
-        requires { Closed self }
-        ensures { window.new ≡ tabulate (length window.old) (ring_page self) }
+        ensures { window.new ≡ tabulate (length window.old) (ring_page (ring self)) }
     {
         let mut at = 0;
         for entry in window.iter_mut() {

@@ -7,9 +7,8 @@ use lib.ListN.{length}
 use Rattle.base_shared.specs.Lists.{tabulate}
 use Rattle.memory_pages.specs.declared.page.Page.{Page}
 use Rattle.memory_pages.specs.Pages.{entry, pages_on}
-use Rattle.memory_rule.specs.declared.rings.PageRing.{PageRing}
 use Rattle.memory_rule.specs.Rule.{base}
-use Rattle.memory_rule.specs.Required.{ring_page}
+use Rattle.memory_rule.specs.Required.{Ring, ring_page}
 use Rattle.memory_rule.proofs.Turned.{around}
 use Rattle.memory_rule.proofs.Unwrapped.{unwrapped}
 use Rattle.memory_rule.proofs.map_window.Goals as goal
@@ -27,4 +26,4 @@ pub returns-else-size-region : goal.returns-else-size-region
 returns-else-size-region c =
     let r = c.args.region in
     let n = length c.args.window.now in
-    c.show.ensures ∙ ap (λ (g : PageRing). tabulate n (ring_page g)) c.of.ensures.0 ∙ around r (record { below = c.requires.below; pages = c.requires.short (omega arith) }) n c.args.bank (omega arith)
+    c.show.ensures ∙ ap (λ (g : Ring). tabulate n (ring_page g)) c.of.ensures ∙ around r (record { below = c.requires.below; pages = c.requires.short (omega arith) }) n c.args.bank (omega arith)

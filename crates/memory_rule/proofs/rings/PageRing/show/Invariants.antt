@@ -4,9 +4,10 @@ use Prim.Native.Nat.{◌%◌, ◌<◌}
 use lib.ListN.{length}
 use Rattle.base_shared.proofs.Runs.{Filled}
 use Rattle.memory_rule.specs.Required.{ring_page}
+use Rattle.memory_rule.specs.Rings.{ring}
 use Rattle.memory_rule.proofs.rings.PageRing.show.Given as goal
 
 abbrev pub invariant-loop-entry : goal.invariant-loop-entry
 invariant-loop-entry l =
-    Filled l.initial.window 0 (length l.initial.window) (ring_page l.self) l.window l.entry-index
+    Filled l.initial.window 0 (length l.initial.window) (ring_page (ring l.self)) l.window l.entry-index
     × (l.at ≡ l.entry-index % l.self.count) × (l.at < l.self.count)
