@@ -8,8 +8,7 @@ use Rattle.memory_layout.specs.declared.regions.Region.{Region}
 use Rattle.memory_layout.specs.declared.regions.Src.{Src}
 use Rattle.memory_layout.specs.Layout.{region}
 use Rattle.memory_layout.specs.Required.{Limits}
-use Rattle.memory_rule.specs.declared.rings.PageRing.{PageRing}
-use Rattle.memory_rule.specs.Required.{Whole, ring_of, ring_page}
+use Rattle.memory_rule.specs.Required.{Ring, Whole, ring_of, ring_page}
 use Rattle.memory_rule.proofs.Shown.{whole_region}
 use Rattle.memory_rule.proofs.Turned.{one_shown}
 use Rattle.vrc6_tables.specs.Tables.{one_page}
@@ -27,5 +26,5 @@ each_same : (f g : ℕ → Page) → ((v : ℕ) → f v ≡ g v) → (vs : List 
 each_same f g e [] = refl
 each_same f g e (v ∷ vs) = λ i. e v i ∷ each_same f g e vs i
 
-pub ringed : (r : Region) → Whole r → (g : PageRing) → g ≡ ring_of r → (vs : List ℕ) → map (ring_page g) vs ≡ map (one_page r) vs
-ringed r w g e vs = ap (λ (o : PageRing). map (ring_page o) vs) e ∙ each_same (ring_page (ring_of r)) (one_page r) (λ v. sym (one_shown r w v)) vs
+pub ringed : (r : Region) → Whole r → (g : Ring) → g ≡ ring_of r → (vs : List ℕ) → map (ring_page g) vs ≡ map (one_page r) vs
+ringed r w g e vs = ap (λ (o : Ring). map (ring_page o) vs) e ∙ each_same (ring_page (ring_of r)) (one_page r) (λ v. sym (one_shown r w v)) vs

@@ -12,7 +12,8 @@
 
 ghost use Rattle.std.specs.Prelude.{◌≡◌, ◌++◌, map};
 ghost use Rattle.memory_layout.specs.Layout.{region};
-ghost use Rattle.memory_rule.specs.Required.{Closed, ring_of, ring_page};
+ghost use Rattle.memory_rule.specs.Required.{ring_of, ring_page};
+ghost use Rattle.memory_rule.specs.Rings.{ring};
 ghost use Rattle.vrc6_slots.specs.Chr.{chr_slots};
 ghost use Rattle.vrc6_tables.specs.Tables.{cpu_entries, nametable_source, picture_entries};
 
@@ -40,13 +41,12 @@ pub fn prg_pages(layout: LimitedLayout, banking: Banking) -> [Page; 64]
 }
 
 // Windows of one page.
-fn bank_pages<const N: usize>(ring: PageRing, banks: [u8; N]) -> [Page; N]
-    requires { Closed ring }
-    ensures { result ≡ map (ring_page ring) banks.entry }
+fn bank_pages<const N: usize>(region: PageRing, banks: [u8; N]) -> [Page; N]
+    ensures { result ≡ map (ring_page (ring region)) banks.entry }
 {
     let mut pages = [Page::UNMAPPED; N];
     for (i, page) in pages.iter_mut().enumerate() {
-        *page = ring.page(u32::from(banks[i]));
+        *page = region.page(u32::from(banks[i]));
     }
     pages
 }
@@ -54,8 +54,7 @@ fn bank_pages<const N: usize>(ring: PageRing, banks: [u8; N]) -> [Page; N]
 // The slots' entries.
 #[tactic(auto, unfolding(vrc6_slots::specs::Chr::chr_slots))]
 fn slot_pages(chr: PageRing, banking: Banking) -> [Page; 8]
-    requires { Closed chr }
-    ensures { result ≡ map (ring_page chr) (chr_slots banking.banking_mode banking.chr) }
+    ensures { result ≡ map (ring_page (ring chr)) (chr_slots banking.banking_mode banking.chr) }
 {
     // A mode whose low two bits are 0 shows each register in a slot of its own, and then no banks have to be put together.
     if banking.banking_mode % 4 == 0 {
@@ -66,7 +65,7 @@ fn slot_pages(chr: PageRing, banking: Banking) -> [Page; 8]
 
 // The ring of the region that the nametables select from.
 fn nametable_ring(layout: LimitedLayout, mode: u8) -> PageRing
-    ensures { (result ≡ ring_of (region layout.layout (nametable_source mode))) × Closed result }
+    ensures { ring result ≡ ring_of (region layout.layout (nametable_source mode)) }
 {
     if chr_rom_nametables(mode) {
         return PageRing::of(layout.region(Src::Chr));

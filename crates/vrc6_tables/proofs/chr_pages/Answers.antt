@@ -20,7 +20,7 @@ returns c =
     c.picture_table.ensures
     ∙ ap₂ (λ (slots names : List Page). slots ++ names ++ names)
     (c.slot_pages.ensures
-    ∙ ringed (region l.layout Chr) (whole_region l.layout l.within Chr) _ (c.of-chr.ensures.0 ∙ ap ring_of c.region.ensures)
+    ∙ ringed (region l.layout Chr) (whole_region l.layout l.within Chr) _ (c.of-chr.ensures ∙ ap ring_of c.region.ensures)
     (chr_slots b.banking_mode b.chr))
     (c.bank_pages.ensures
-    ∙ ringed (region l.layout source) (whole_region l.layout l.within source) _ c.nametable_ring-source.ensures.0 b.nt_banks)
+    ∙ ringed (region l.layout source) (whole_region l.layout l.within source) _ c.nametable_ring-source.ensures b.nt_banks)
