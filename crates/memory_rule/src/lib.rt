@@ -15,19 +15,14 @@ use rings::PageRing;
 
 // A bank's number modulo the count of banks, never negative: -1 is the last bank.
 fn rem_euclid(bank: i32, banks: u32) -> u32
-    requires { 1 ≤ banks }
+    requires { (1 ≤ banks) × (banks ≤ 2 ^ 30) }
     ensures { result ≡ rem_euclid bank banks }
 {
-    if bank < 0 {
-        let n = -1 - bank;
-        return banks - 1 - n as u32 % banks;
+    match u32::try_from(bank) {
+        // The usual number is below the count, and then a division is saved.
+        Ok(n) if n < banks => n,
+        _ => bank.rem_euclid(banks as i32) as u32,
     }
-    let n = bank as u32;
-    // The usual number is below the count, and then a division is saved.
-    if n < banks {
-        return n;
-    }
-    n % banks
 }
 
 // A window at least as long as the region leaves one bank, so that it repeats the region.

@@ -41,14 +41,10 @@ pub fn prg_pages(layout: LimitedLayout, banking: Banking) -> [Page; 64]
 }
 
 // Windows of one page.
-fn bank_pages<const N: usize>(region: PageRing, banks: [u8; N]) -> [Page; N]
-    ensures { result ≡ map (ring_page (ring region)) banks.entry }
+fn bank_pages<const N: usize>(source: PageRing, banks: [u8; N]) -> [Page; N]
+    ensures { result ≡ map (ring_page (ring source)) banks.entry }
 {
-    let mut pages = [Page::UNMAPPED; N];
-    for (i, page) in pages.iter_mut().enumerate() {
-        *page = region.page(u32::from(banks[i]));
-    }
-    pages
+    banks.map(|bank| source.page(u32::from(bank)))
 }
 
 // The slots' entries.
