@@ -51,7 +51,8 @@ fn follow(window: &mut [Page], first: Page)
     }
 }
 
-// Shows a bank of a region in a window, which has an entry for each of its pages.
+// Shows a bank of a region in a window, which has an entry for each of its pages. What it asks of the region is a clause and no ghost
+// field of `Region`: of a region that holds the window it asks less than a ring does.
 pub fn map_window(window: &mut [Page], region: Region, bank: i32)
     requires { Mapped region (length window.old) }
     ensures { window.new ≡ tabulate (length window.old) (shown region (length window.old * 1024) bank) }

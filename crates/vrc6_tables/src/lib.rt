@@ -73,11 +73,11 @@ fn nametable_ring(layout: LimitedLayout, mode: u8) -> PageRing
 fn picture_table(slots: [Page; 8], names: [Page; 4]) -> [Page; 16]
     ensures { result ≡ slots ++ names ++ names }
 {
-    let [s0, s1, s2, s3, s4, s5, s6, s7] = slots;
-    let [n0, n1, n2, n3] = names;
-    [
-        s0, s1, s2, s3, s4, s5, s6, s7, n0, n1, n2, n3, n0, n1, n2, n3,
-    ]
+    let mut pages = [Page::UNMAPPED; 16];
+    pages[..8].copy_from_slice(&slots);
+    pages[8..12].copy_from_slice(&names);
+    pages[12..16].copy_from_slice(&names);
+    pages
 }
 
 // The picture side's entries. Nametables are page entries like any other.

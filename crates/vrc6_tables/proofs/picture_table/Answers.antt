@@ -1,5 +1,6 @@
 -- `picture_table` meets its contract, entry by entry. Assumes nothing.
 use mathlib.Core.Path.{◌≡◌}
+use native.Mathlib.Omega.{arith}
 use lib.ListN.{length}
 use borrow.Author.Rules.{rules}
 use Rattle.memory_pages.specs.Pages.{unmapped}
@@ -15,4 +16,21 @@ four c = search rules
 
 pub returns : goal.returns
 returns c =
-    rw (← spelled unmapped 8 c.args.slots (eight (goal.at.returns c).Start), ← spelled unmapped 4 c.args.names (four (goal.at.returns c).Start))
+    rw (
+      c.copy_from_slice.ensures.after,
+      c.copy_from_slice-2.ensures.after,
+      c.copy_from_slice-3.ensures.after,
+      ← spelled unmapped 8 c.args.slots (eight (goal.at.returns c).Start),
+      ← spelled unmapped 4 c.args.names (four (goal.at.returns c).Start),
+    )
+
+-- the table is still as long as it was
+pub slice_bounds-pages-end-3 : goal.slice_bounds-pages-end-3
+slice_bounds-pages-end-3 c =
+    rw (
+      c.copy_from_slice.ensures.after,
+      c.copy_from_slice-2.ensures.after,
+      ← spelled unmapped 8 c.args.slots (eight (goal.at.slice_bounds-pages-end-3 c).Start),
+      ← spelled unmapped 4 c.args.names (four (goal.at.slice_bounds-pages-end-3 c).Start),
+    )
+    (omega arith)
