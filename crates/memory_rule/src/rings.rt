@@ -72,7 +72,7 @@ impl PageRing {
     pub fn show(self, window: &mut [Page])
         ensures { window.new ≡ tabulate (length window.old) (ring_page (ring self)) }
     {
-        // at goes round with the pages. By `page(n)` of `enumerate` a bank write took 17 instructions more, and the window's
+        // at goes round with the pages. By `page(n)` of `enumerate` both tables took 17 instructions more, and the window's
         // length would have to be asked.
         let mut at = 0;
         for entry in window.iter_mut() {
