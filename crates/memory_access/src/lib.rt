@@ -3,8 +3,6 @@
 // check nothing. Both buffers are parameters of their own: C lends them so, and a read borrows both while a write changes one.
 #![tactic(auto)]
 
-pub mod free;
-
 ghost use Rattle.std.specs.Prelude.{◌≡◌, ◌++◌, ◌+◌, ◌≤◌, ◌<◌, IfOk, get_or, length, true};
 ghost use Rattle.base_shared.specs.Numbers.{answer_number};
 ghost use Rattle.memory_pages.specs.Pages.{offset};
@@ -12,7 +10,6 @@ ghost use Rattle.memory_access.specs.Access.{access_refusal, answered, byte_at, 
 ghost use Rattle.memory_access.specs.Required.{Placed};
 
 use base_shared::Refusal;
-pub use free::{check_access, peek, view, write};
 use memory_layout::MemoryLayout;
 use memory_pages::Page;
 

@@ -1,6 +1,5 @@
 -- `bank_pages` meets its contract. Assumes nothing.
-use Rattle.std.proofs.Common.{rules, ◌≡◌, ℕ}
-use denote.Param.Members.{Called}
+use Rattle.std.proofs.Common.{rules, ℕ}
 use Rattle.memory_rule.specs.Required.{ring_page}
 use Rattle.memory_rule.specs.Rings.{ring}
 use Rattle.vrc6_tables.proofs.Mapped.{mapped}
