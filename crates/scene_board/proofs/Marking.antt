@@ -1,6 +1,6 @@
 -- The steps of a menu, marked one after the other. Assumes nothing.
-use Rattle.std.proofs.Common.{◌≡◌, ℕ, ◌+◌, ◌<◌, ◌≤◌, Option, Bool, false, eqb, List, [], ◌∷◌, length, get_or, set, take, drop, refl, sym, ap, ◌∙◌, subst, arith, length-set, get_or-set_same, get_or-set_other, eqb-true}
-use Rattle.std.proofs.lemmas.List.{drop_more, length-drop}
+use Rattle.std.proofs.Common.{◌≡◌, ℕ, ◌+◌, ◌<◌, ◌≤◌, Option, Bool, false, eqb, List, ◌∷◌, length, get_or, set, take, drop, refl, sym, ap, ◌∙◌, subst, arith, length-set, get_or-set_same, get_or-set_other, eqb-true}
+use Rattle.std.proofs.lemmas.List.{drop_more, length-drop, set-get_or}
 use borrow.Author.Tests.{eqb-false}
 use Rattle.base_shared.proofs.Tests.{tested}
 use Rattle.memory_layout.specs.declared.regions.MemoryLayout.{MemoryLayout}
@@ -27,16 +27,13 @@ module _ (l : MemoryLayout) (x : State) (menu : List Step) (asked : List (Option
   pub none : (marks : List Bool) → Upto (length marks) marks x 0 menu
   none marks = record { width = refl; state = refl; left = refl; within = omega arith; marked = λ j h. absurd (omega arith) }
 
-  module _ (n : ℕ) (marks : List Bool) (now then : State) (i : ℕ) (rest behind : List Step) (s : Step) (u : Upto n marks now i rest) (is : rest ≡ s ∷ behind)
-      (room : i < n) (e : then ≡ after now (step_calls s)) where
+  module _ (n : ℕ) (marks : List Bool) (now then : State) (i : ℕ) (rest behind : List Step) (d : Step) (u : Upto n marks now i rest) (some : 1 ≤ length rest)
+      (room : i < n) (e : then ≡ after now (step_calls (get_or rest 0 d))) (b : behind ≡ drop 1 rest) where
     more : i < length menu
-    more = omega (arith, u.within, length-drop i menu, ap length (sym u.left ∙ is))
+    more = omega (arith, some, ap length u.left, length-drop i menu)
 
-    parts : s ∷ behind ≡ get_or menu i s ∷ drop (i + 1) menu
-    parts = sym is ∙ u.left ∙ drop_more menu i s more
-
-    here : s ≡ get_or menu i s
-    here = ap (λ (l : List Step). get_or l 0 s) parts
+    whole : rest ≡ get_or menu i d ∷ drop (i + 1) menu
+    whole = u.left ∙ drop_more menu i d more
 
     -- one more is marked and played
     pub put : (mark : Bool) → mark ≡ wrong_letters l now.board.chr_pages asked → Upto n (set marks i mark) then (i + 1) behind
@@ -45,11 +42,11 @@ module _ (l : MemoryLayout) (x : State) (menu : List Step) (asked : List (Option
           width = length-set marks i mark ∙ u.width;
           state =
               e
-              ∙ ap (λ (d : Step). after now (step_calls d)) here
-              ∙ ap (λ (y : State). after y (step_calls (get_or menu i s))) u.state
-              ∙ sym (joined (calls_of (take i menu)) (step_calls (get_or menu i s)) x)
-              ∙ ap (after x) (sym (steps_on menu i s more));
-          left = ap (drop 1) parts;
+              ∙ ap (λ (r : List Step). after now (step_calls (get_or r 0 d))) whole
+              ∙ ap (λ (y : State). after y (step_calls (get_or menu i d))) u.state
+              ∙ sym (joined (calls_of (take i menu)) (step_calls (get_or menu i d)) x)
+              ∙ ap (after x) (sym (steps_on menu i d more));
+          left = b ∙ ap (drop 1) whole;
           within = omega (arith, more);
           marked = λ j a.
               tested (eqb j i)
@@ -66,7 +63,9 @@ module _ (l : MemoryLayout) (x : State) (menu : List Step) (asked : List (Option
   pub all : (n : ℕ) (marks : List Bool) (now : State) (rest : List Step) → Upto n marks now n rest → MarkedSteps l x menu asked marks
   all n marks now rest u = record { mark = λ j a b. u.marked j (omega (arith, u.width)) }
 
-  pub ended : (n : ℕ) (marks : List Bool) (now : State) (i : ℕ) (rest : List Step) → Upto n marks now i rest → rest ≡ [] → MarkedSteps l x menu asked marks
-  ended n marks now i rest u e =
-      let done : length menu ≤ i = omega (arith, length-drop i menu, ap length (sym u.left ∙ e)) in
-      record { mark = λ j a b. u.marked j (omega arith) }
+  pub ended : (n : ℕ) (marks : List Bool) (now : State) (i : ℕ) (rest : List Step) → Upto n marks now i rest → length rest < 1 → (y : State) → x ≡ y
+      → MarkedSteps l y menu asked (set marks i (get_or marks i false))
+  ended n marks now i rest u e y s =
+      let done : length menu ≤ i = omega (arith, e, ap length u.left, length-drop i menu) in
+      subst (λ (z : State). MarkedSteps l z menu asked (set marks i (get_or marks i false))) s
+      (rw set-get_or (record { mark = λ j a b. u.marked j (omega arith) }))

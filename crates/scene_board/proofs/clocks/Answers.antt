@@ -2,5 +2,5 @@
 use Rattle.scene_board.proofs.After.{once_more}
 use Rattle.scene_board.proofs.clocks.Goals as goal
 
-pub loop-i-preserved : goal.loop-i-preserved
-loop-i-preserved c = once_more _ _ _ _ _ c.loop-i.invariant c.call-board.ensures
+pub loop-preserved : goal.loop-preserved
+loop-preserved c = once_more _ _ _ _ _ c.loop.invariant c.call-board.ensures
