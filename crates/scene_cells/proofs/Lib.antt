@@ -1,4 +1,5 @@
 pub mod Contents
+pub mod Quoting
 pub mod RoundTrip
 pub mod Rows
 pub mod Spacing

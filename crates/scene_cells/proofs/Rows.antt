@@ -7,7 +7,6 @@ use Rattle.scene_cells.specs.Laws.{CellExamples, ColumnLaw, SeparatorExamples, S
 use Rattle.scene_cells.specs.Rows.{cells_of}
 
 pub column_law : ColumnLaw
-unfolding place_in
 column_law Scene = refl
 column_law Prg = refl
 column_law Chr = refl
@@ -41,17 +40,13 @@ examples =
       no_column = refl;
       two_words = refl;
       no_word = refl;
-      revision = refl;
-      no_revision = refl;
-      mirroring = refl;
-      no_mirroring = refl;
       masked = refl;
       open_choice = refl;
       no_choice = refl;
     }
 
 pub separator_examples : SeparatorExamples
-unfolding plain_cell quoted_cell place_in cells_of
+unfolding plain_cell quoted_cell cells_of
 separator_examples =
     record {
       comma = refl;

@@ -1,16 +1,12 @@
 -- The columns of a sheet (docs/SCENES.md). Assumes nothing.
-use Rattle.std.specs.Prelude.{List, [], ◌∷◌, ℕ, Option, slice_get}
+use Rattle.std.specs.Prelude.{List, [], ◌∷◌, ℕ, Option, find}
 use Rattle.std.specs.Option.{option_and_then}
-use Rattle.text_words.specs.Names.{codes, place_in}
+use Rattle.text_words.specs.Names.{codes, same_name}
 use Rattle.text_words.specs.Words.{only_word}
 use Rattle.scene_cells.specs.declared.columns.Column.{Column}
 use Rattle.scene_cells.specs.declared.columns.Column.TheVariants.{Scene, Prg, Chr, Revision, Mirroring, Writes, Window, Letters, Menu, File, At, Interrupts}
 
--- the names of the columns (docs/SCENES.md)
-abbrev pub names : List ℕ
-names = codes "scene prg chr revision mirroring writes window letters menu file at interrupts"
-
--- the columns, in the order of their names (docs/SCENES.md)
+-- the columns (docs/SCENES.md)
 abbrev pub columns : List Column
 columns = Scene ∷ Prg ∷ Chr ∷ Revision ∷ Mirroring ∷ Writes ∷ Window ∷ Letters ∷ Menu ∷ File ∷ At ∷ Interrupts ∷ []
 
@@ -29,9 +25,9 @@ column_name File = codes "file"
 column_name At = codes "at"
 column_name Interrupts = codes "interrupts"
 
--- the column with a name (docs/SCENES.md)
+-- the column with a name, where a capital counts as its small letter (docs/SCENES.md)
 abbrev pub column_named : List ℕ → Option Column
-column_named word = option_and_then (slice_get columns) (place_in names word)
+column_named word = find (λ column. same_name word (column_name column)) columns
 
 -- the column that a cell names by its only word (docs/SCENES.md)
 abbrev pub column_of : List ℕ → Option Column

@@ -2,11 +2,13 @@
 use Rattle.std.specs.Prelude.{◌≡◌, true, false, cond, List, [], ◌∷◌, ◌++◌, ℕ, eqb, Some, None}
 use Rattle.text_words.specs.Names.{codes}
 use Rattle.scene_cells.specs.declared.CellFault.TheVariants.{Unclosed, BehindQuote}
+use Rattle.scene_cells.specs.declared.choices.Interrupts.TheVariants.{Masked, Open}
 use Rattle.scene_cells.specs.declared.columns.Column.{Column}
 use Rattle.scene_cells.specs.declared.columns.Column.TheVariants.{Menu, File, Interrupts}
 use Rattle.scene_cells.specs.Cells.{behind_break, cell_of, ends_row, is_break}
-use Rattle.scene_cells.specs.Choices.{interrupts_of, mirroring_of, revision_of}
+use Rattle.scene_cells.specs.Choices.{interrupts_of}
 use Rattle.scene_cells.specs.Columns.{column_name, column_of}
+use Rattle.scene_cells.specs.Quotes.{unquoted}
 use Rattle.scene_cells.specs.Separators.{is_sep_line, separator_of}
 use Rattle.scene_cells.specs.Spaces.{with_spaces}
 
@@ -27,6 +29,10 @@ RoundTripLaw =
     (separator : ℕ) → (separator ≡ 34 → ⊥) → (bytes text : List ℕ) → BreakNext separator text
     → cell_of separator (34 ∷ (doubled bytes ++ (34 ∷ text)))
     ≡ record { bytes = doubled bytes; rest = behind_break text; quoted = true; last = ends_row text; wrong = None }
+
+-- bytes that are written in quotes, each quote in them twice, are the cell's (RFC 4180)
+abbrev pub UnquotedLaw : Type 0
+UnquotedLaw = (bytes : List ℕ) → unquoted true (doubled bytes) ≡ bytes
 
 -- a cell with a column's name names the column
 abbrev pub ColumnLaw : Type 0
@@ -55,12 +61,8 @@ pub record CellExamples : Type 0 where
   pub two_words : column_of (codes "menu file") ≡ None
   pub no_word : column_of (codes " ") ≡ None
   -- choices
-  pub revision : revision_of (codes "B") ≡ Some 1
-  pub no_revision : revision_of (codes "C") ≡ None
-  pub mirroring : mirroring_of (codes "B") ≡ Some 3
-  pub no_mirroring : mirroring_of (codes "C") ≡ None
-  pub masked : interrupts_of (codes "Masked") ≡ Some 0
-  pub open_choice : interrupts_of (codes "open") ≡ Some 1
+  pub masked : interrupts_of (codes "Masked") ≡ Some Masked
+  pub open_choice : interrupts_of (codes "open") ≡ Some Open
   pub no_choice : interrupts_of (codes "on") ≡ None
 
 -- separators of headers, and lines that give one (docs/SCENES.md)

@@ -4,6 +4,7 @@ pub mod Columns
 pub mod Contents
 pub mod Laws
 pub mod Marks
+pub mod Quotes
 pub mod Rows
 pub mod Separators
 pub mod Spaces

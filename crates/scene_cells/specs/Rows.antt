@@ -39,3 +39,9 @@ pub record CellUnder (separator : ℕ) (header row : List ℕ) (column : Column)
   pub place : Option ℕ
   pub named : FoundIn separator column header place
   pub held : option_map content cell ≡ option_and_then (λ (k : ℕ). nth_cell separator k row) place
+
+-- the bytes of that cell, none where there is no cell
+pub record BytesUnder (separator : ℕ) (header row : List ℕ) (column : Column) (bytes : List ℕ) : Type 0 where
+  pub cell : Option Cell
+  pub under : CellUnder separator header row column cell
+  pub shown : bytes ≡ option_map_or (λ (c : Cell). c.bytes.now) cell []

@@ -3,7 +3,7 @@ ghost use Rattle.std.specs.Prelude.{◌≡◌, Some};
 ghost use Rattle.scene_cells.specs.Columns.{column_name, column_of};
 
 use std::fmt;
-use text_words::names::place_in;
+use text_words::names::same_name;
 use text_words::only_word;
 
 #[derive(Clone, Copy, PartialEq, Eq, Debug)]
@@ -22,7 +22,7 @@ pub enum Column {
     Interrupts,
 }
 
-// The columns, in the order of their names below.
+// The columns, as docs/SCENES.md lists them.
 pub const COLUMNS: [Column; 12] = [
     Column::Scene,
     Column::Prg,
@@ -72,9 +72,9 @@ impl fmt::Display for Column {
 pub fn column_of(cell: &[u8]) -> Option<Column>
     ensures { result ≡ column_of cell.now }
 {
-    let place = place_in(
-        b"scene prg chr revision mirroring writes window letters menu file at interrupts",
-        only_word(cell)?,
-    )?;
-    COLUMNS.get(place).copied()
+    let word = only_word(cell)?;
+    COLUMNS
+        .iter()
+        .copied()
+        .find(|column| same_name(word, column.name().as_bytes()))
 }

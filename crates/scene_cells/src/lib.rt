@@ -6,12 +6,15 @@ pub mod choices;
 pub mod columns;
 pub mod lookup;
 pub mod marks;
+pub mod quotes;
 pub mod separators;
 pub mod spaces;
 
 ghost use Rattle.std.specs.Prelude.{◌≡◌, ◌≤◌, drop, length};
 ghost use Rattle.scene_cells.specs.Cells.{behind_break, cell_of, closed_to, ends_row, from_break, from_quote, plain_cell, quoted_cell};
 ghost use Rattle.scene_cells.specs.Contents.{content};
+
+use crate::quotes::Unquoted;
 
 // What is wrong with a cell.
 #[derive(Clone, Copy, PartialEq, Eq, Debug)]
@@ -31,6 +34,19 @@ pub struct Cell<'a> {
     pub quoted: bool,
     pub last: bool,
     pub wrong: Option<CellFault>,
+}
+
+impl<'a> Cell<'a> {
+    // Its bytes as they are meant.
+    pub fn unquoted(self) -> Unquoted<'a>
+        ensures bytes { result.bytes.now ≡ self.entry.bytes.now }
+        ensures quoted { result.quoted ≡ self.entry.quoted }
+    {
+        Unquoted {
+            bytes: self.bytes,
+            quoted: self.quoted,
+        }
+    }
 }
 
 // How many bytes of a text stand before its first separator or line end.

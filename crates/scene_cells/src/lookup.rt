@@ -2,7 +2,7 @@
 ghost use Rattle.std.specs.Prelude.{◌≡◌, option_map};
 ghost use Rattle.std.specs.Iterator.{YieldsFirstBy, item_count};
 ghost use Rattle.scene_cells.specs.Contents.{content};
-ghost use Rattle.scene_cells.specs.Rows.{CellUnder, FoundIn, cells_left, cells_of, nth_cell};
+ghost use Rattle.scene_cells.specs.Rows.{BytesUnder, CellUnder, FoundIn, cells_left, cells_of, nth_cell};
 
 use crate::columns::{Column, column_of};
 use crate::{Cell, cell_at};
@@ -55,14 +55,30 @@ pub fn find_column(row: &[u8], column: Column, separator: u8) -> Option<usize>
     Cells::new(row, separator).position(|cell| column_of(cell.bytes) == Some(column))
 }
 
-// The cell of a row in a column that the header names.
-pub fn cell_under<'a>(
-    header: &[u8],
-    row: &'a [u8],
-    column: Column,
-    separator: u8,
-) -> Option<Cell<'a>>
-    ensures { CellUnder separator header.now row.now column result }
-{
-    nth_cell(row, find_column(header, column, separator)?, separator)
+// A row below its header, and what stands between the cells of both.
+#[derive(Clone, Copy)]
+pub struct HeadedRow<'a> {
+    pub header: &'a [u8],
+    pub cells: &'a [u8],
+    pub separator: u8,
+}
+
+impl<'a> HeadedRow<'a> {
+    // The row's cell in a column that the header names.
+    pub fn cell(self, column: Column) -> Option<Cell<'a>>
+        ensures { CellUnder self.entry.separator self.entry.header.now self.entry.cells.now column result }
+    {
+        let place = find_column(self.header, column, self.separator)?;
+        nth_cell(self.cells, place, self.separator)
+    }
+
+    // The bytes of that cell, none where there is no cell.
+    pub fn bytes(self, column: Column) -> &'a [u8]
+        ensures { BytesUnder self.entry.separator self.entry.header.now self.entry.cells.now column result.now }
+    {
+        match self.cell(column) {
+            Some(cell) => cell.bytes,
+            None => &[],
+        }
+    }
 }
