@@ -1,3 +1,4 @@
+pub mod Filed
 pub mod Laws
-pub mod Said
 pub mod Singles
+pub mod Words

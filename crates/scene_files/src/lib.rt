@@ -1,5 +1,5 @@
-// What a cartridge says in the columns of a row of a sheet, and whether the row's cells agree with it.
+// What the cells of a row say by one word, beside the cartridge file that the row names.
 #![tactic(auto)]
 
-pub mod said;
+pub mod filed;
 pub mod singles;
