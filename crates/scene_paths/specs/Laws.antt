@@ -1,12 +1,7 @@
 -- What the definitions come to, and examples; `proofs/` proves them. Assumes nothing.
-use Rattle.std.specs.Prelude.{◌≡◌, true, false, List, ℕ}
+use Rattle.std.specs.Prelude.{◌≡◌, false}
 use Rattle.text_words.specs.Names.{codes}
-use Rattle.scene_cells.specs.Laws.{doubled}
-use Rattle.scene_paths.specs.Paths.{name_of, path_of, unquoted}
-
--- bytes that are written in quotes, each quote in them twice, are the name's (RFC 4180)
-abbrev pub UnquotedLaw : Type 0
-UnquotedLaw = (bytes : List ℕ) → unquoted true (doubled bytes) ≡ bytes
+use Rattle.scene_paths.specs.Paths.{name_of, path_of}
 
 -- names and paths (docs/SCENES.md)
 pub record PathExamples : Type 0 where

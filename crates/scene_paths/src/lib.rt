@@ -3,9 +3,11 @@
 
 ghost use Rattle.std.specs.Prelude.{◌≡◌, ◌<◌, ◌++◌, ℕ, Bool, length, IfNone, MatchOption, OnSome};
 ghost use Rattle.scene_paths.specs.Names.{is_ink, is_slash, trimmed, up_to};
-ghost use Rattle.scene_paths.specs.Paths.{folder_of, is_rooted, name_of, path_of, unquoted};
+ghost use Rattle.scene_cells.specs.Quotes.{unquoted};
+ghost use Rattle.scene_paths.specs.Paths.{folder_of, is_rooted, name_of, path_of};
 
 use arrayvec::ArrayVec;
+use scene_cells::quotes::Unquoted;
 use text_words::{from_first, is_blank};
 
 // A text up to its last byte that a test takes, with it.
@@ -53,33 +55,25 @@ fn folder_of<'a>(sheet: &'a [u8], name: &[u8]) -> &'a [u8]
     up_to(sheet, |byte| byte == b'/')
 }
 
-// Puts a cell's bytes behind a path, as long as there is room. In a quoted cell two quotes stand for one.
-fn put_name<const N: usize>(path: &mut ArrayVec<u8, N>, bytes: &[u8], quoted: bool) -> Option<()>
-    ensures all { OnSome result (path.new.items ≡ path.old.items ++ unquoted quoted bytes.now) }
-    ensures full { IfNone result (N < length (path.old.items ++ unquoted quoted bytes.now)) }
+// Puts a name behind a path, as long as there is room.
+fn put_name<const N: usize>(path: &mut ArrayVec<u8, N>, name: Unquoted) -> Option<()>
+    ensures all { OnSome result (path.new.items ≡ path.old.items ++ unquoted name.entry.quoted name.entry.bytes.now) }
+    ensures full { IfNone result (N < length (path.old.items ++ unquoted name.entry.quoted name.entry.bytes.now)) }
 {
-    // Whether a quote was the first of two.
-    let mut half = false;
-    for byte in bytes {
-        let quote = *byte == b'"';
-        if half & quote {
-            half = false;
-        } else {
-            path.try_push(*byte).ok()?;
-            half = quoted & quote;
-        }
+    for byte in name {
+        path.try_push(byte).ok()?;
     }
     Some(())
 }
 
 // The path of the file that a cell names, from the folder of the sheet; none where it has more than N bytes.
 #[tactic(auto, using(crate::proofs::Folders::same_folder))]
-pub fn path_of<const N: usize>(sheet: &[u8], cell: &[u8], quoted: bool) -> Option<ArrayVec<u8, N>>
-    ensures { let path = path_of sheet.now (name_of quoted cell.now) in MatchOption result (N < length path) (λ p. p.items ≡ path) }
+pub fn path_of<const N: usize>(sheet: &[u8], cell: Unquoted) -> Option<ArrayVec<u8, N>>
+    ensures { let path = path_of sheet.now (name_of cell.entry.quoted cell.entry.bytes.now) in MatchOption result (N < length path) (λ p. p.items ≡ path) }
 {
-    let name = name_in(cell);
+    let bytes = name_in(cell.bytes);
     let mut path = ArrayVec::new();
-    path.try_extend_from_slice(folder_of(sheet, name)).ok()?;
-    put_name(&mut path, name, quoted)?;
+    path.try_extend_from_slice(folder_of(sheet, bytes)).ok()?;
+    put_name(&mut path, Unquoted { bytes, ..cell })?;
     Some(path)
 }
