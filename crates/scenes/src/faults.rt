@@ -2,6 +2,7 @@
 use base_shared::Refusal;
 use cartridge_report::Refused;
 use scene_cells::columns::Column;
+use scene_cells::quotes::Unquoted;
 use scene_steps::letters::PairError;
 use scene_steps::picture::AtError;
 use scene_steps::step::StepError;
@@ -129,14 +130,10 @@ fn put_byte(out: &mut Output, byte: u8) {
     }
 }
 
-// A cell's bytes; in quotes a doubled quote stands for one.
-pub(crate) fn put_cell(out: &mut Output, cell: &[u8], quoted: bool) {
-    let mut half = false;
+// A cell's bytes as they are meant.
+pub(crate) fn put_cell(out: &mut Output, cell: Unquoted) {
     for byte in cell {
-        half = quoted && *byte == b'"' && !half;
-        if !half {
-            put_byte(out, *byte);
-        }
+        put_byte(out, byte);
     }
 }
 
@@ -147,9 +144,9 @@ impl Place {
     }
 
     // A fault of a word, which stands in single quotes.
-    pub(crate) fn tell_word(self, out: &mut Output, word: &[u8], quoted: bool, fault: WordFault) {
+    pub(crate) fn tell_word(self, out: &mut Output, word: Unquoted, fault: WordFault) {
         put!(out; "{self}: '");
-        put_cell(out, word, quoted);
+        put_cell(out, word);
         put!(out; "' {fault}\n");
     }
 }

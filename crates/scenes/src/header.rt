@@ -1,21 +1,21 @@
 // The header row: whether its columns will do.
-use crate::faults::{Fault, Place, put_cell};
+use crate::faults::{Fault, Place, Told, put_cell};
 use crate::near::near_column;
+use crate::row::Row;
 use crate::sheet::SheetFault;
 use scene_cells::Cell;
 use scene_cells::columns::{Column, column_of};
-use scene_cells::lookup::{Cells, find_column};
+use scene_cells::lookup::{Cells, HeadedRow, find_column};
 use scene_cells::separators::{sep_line, separator_in};
 use text_output::{Output, put};
 use text_words::is_empty;
 
-// The sheet from its header on and behind it, what stands between cells, and how many cells the header has.
+// The sheet from its header on and behind it, and what stands between cells.
 #[derive(Clone, Copy)]
 pub struct Header<'a> {
     pub row: &'a [u8],
     pub rest: &'a [u8],
     pub separator: u8,
-    pub cells: usize,
 }
 
 // What is wrong with a name.
@@ -32,7 +32,7 @@ impl NameFault {
             NameFault::Twice => put!(out; "row 1: two columns are named '"),
             NameFault::NotUsed | NameFault::Nearly(_) => put!(out; "row 1: the column '"),
         }
-        put_cell(out, cell.bytes, cell.quoted);
+        put_cell(out, cell.unquoted());
         match self {
             NameFault::Twice => put!(out; "'\n"),
             NameFault::NotUsed => put!(out; "' is not used\n"),
@@ -62,7 +62,6 @@ impl<'a> Header<'a> {
             row,
             rest: row,
             separator,
-            cells: 0,
         }
     }
 
@@ -71,23 +70,23 @@ impl<'a> Header<'a> {
         find_column(self.row, column, self.separator)
     }
 
-    // The name of the next cell must be a column, and not again.
-    fn name_fault(self, name: &[u8]) -> Option<NameFault> {
+    // The name of a cell, with so many before it, must be a column, and not again.
+    fn name_fault(self, place: usize, name: &[u8]) -> Option<NameFault> {
         if is_empty(name) {
             return None;
         }
         let Some(column) = column_of(name) else {
             return Some(near_column(name).map_or(NameFault::NotUsed, NameFault::Nearly));
         };
-        if self.find(column) == Some(self.cells) {
+        if self.find(column) == Some(place) {
             return None;
         }
         Some(NameFault::Twice)
     }
 
-    // Takes the next cell. Hands back whether it will do.
-    fn take(&mut self, out: &mut Output, cell: Cell<'a>) -> bool {
-        let fault = self.name_fault(cell.bytes);
+    // Tells what is wrong with a cell, with so many before it.
+    fn check(self, out: &mut Output, place: usize, cell: Cell<'a>) -> Result<(), Told> {
+        let fault = self.name_fault(place, cell.bytes);
         if let Some(fault) = fault {
             fault.tell(out, cell);
         }
@@ -98,24 +97,34 @@ impl<'a> Header<'a> {
             };
             whole.tell(out, Fault::HeaderQuote);
         }
-        self.cells = self.cells.saturating_add(1);
-        self.rest = cell.rest;
-        fault != Some(NameFault::Twice) && cell.wrong.is_none()
+        if fault == Some(NameFault::Twice) || cell.wrong.is_some() {
+            return Err(Told);
+        }
+        Ok(())
     }
 
     // Reads the header of a sheet, and tells what is wrong with its names.
     pub(crate) fn read(text: &'a [u8], out: &mut Output) -> Result<Header<'a>, SheetFault> {
         let mut header = Header::begin(text);
-        let mut good = true;
-        for cell in Cells::new(header.row, header.separator) {
-            good &= header.take(out, cell);
+        let mut good = Ok(());
+        for (place, cell) in Cells::new(header.row, header.separator).enumerate() {
+            good = header.check(out, place, cell).and(good);
+            header.rest = cell.rest;
         }
         if header.find(Column::Writes).is_none() {
             return Err(SheetFault::NoWrites);
         }
-        if !good {
-            return Err(SheetFault::BadHeader);
-        }
+        good.map_err(|_| SheetFault::BadHeader)?;
         Ok(header)
+    }
+
+    // A row of the sheet, from its place on.
+    pub(crate) fn above(self, cells: &'a [u8], number: u32) -> Row<'a> {
+        let below = HeadedRow {
+            header: self.row,
+            cells,
+            separator: self.separator,
+        };
+        Row { below, number }
     }
 }

@@ -4,15 +4,15 @@ use crate::lists::{read_letters, read_steps};
 use crate::row::Row;
 use crate::scene::Scene;
 use crate::sheet::Sheet;
-use crate::source::{read_source, unfiled};
+use crate::source::read_source;
 use cartridge::Cartridge;
+use scene_cells::choices::Interrupts;
 use scene_cells::columns::Column;
-use scene_files::said::{layout_for, said_in};
-use scene_files::singles::{Said, SingleError, single_of};
+use scene_files::filed::FiledRow;
+use scene_files::singles::SingleError;
 use scene_steps::picture::{At, AtError, at_in};
 use text_output::Output;
-use text_words::{is_empty, next_word};
-use vrc6_banking::banking::{Mirroring, Revision};
+use text_words::next_word;
 
 // What is wrong with a cell that has no value of its column.
 fn no_value(column: Column) -> WordFault {
@@ -27,9 +27,10 @@ fn no_value(column: Column) -> WordFault {
 // What a file says in a column.
 fn said_by(file: Cartridge, column: Column) -> FileSays {
     match column {
+        Column::Prg => FileSays::Length(file.layout.prg_rom),
         Column::Revision => FileSays::Revision(file.revision),
         Column::Mirroring => FileSays::Mirroring(file.mirroring),
-        _ => FileSays::Length(said_in(file, column)),
+        _ => FileSays::Length(file.layout.chr),
     }
 }
 
@@ -55,16 +56,6 @@ struct Reader<'a> {
 }
 
 impl Reader<'_> {
-    // What stands for an empty cell. A cartridge says nothing of the window and the interrupts, which a handler is taken to leave
-    // masked.
-    fn said(self, column: Column) -> Said {
-        match (column, self.file) {
-            (Column::Window | Column::Interrupts, _) => Said::Default(0),
-            (_, Some(file)) => Said::File(said_in(file, column)),
-            (_, None) => Said::Default(said_in(unfiled(), column)),
-        }
-    }
-
     fn fault(self, error: SingleError, column: Column) -> WordFault {
         match (error, self.file) {
             (SingleError::TooLarge, _) => WordFault::TooLarge,
@@ -76,33 +67,25 @@ impl Reader<'_> {
 
     // Tells what is wrong with the word of a cell.
     fn tell(self, out: &mut Output, column: Column, fault: WordFault) -> Told {
-        let word = shown(self.row.bytes(column), fault);
+        let word = shown(self.row.below.bytes(column), fault);
         self.row.tell_word(out, column, word, fault);
         Told
     }
 
-    // What a cell of one word says.
-    fn single(self, out: &mut Output, column: Column) -> Result<u32, Told> {
-        match single_of(self.row.bytes(column), column, self.said(column)) {
-            Ok(number) => Ok(number),
-            Err(error) => Err(self.tell(out, column, self.fault(error, column))),
-        }
-    }
-
-    // The line on which the interrupt must come, if one is given.
-    fn window(self, out: &mut Output) -> Result<Option<u32>, Told> {
-        if is_empty(self.row.bytes(Column::Window)) {
-            return Ok(None);
-        }
-        Ok(Some(self.single(out, Column::Window)?))
+    // What a column's cell says, or that what is wrong with it was told.
+    fn read<T>(
+        self,
+        out: &mut Output,
+        column: Column,
+        said: Result<T, SingleError>,
+    ) -> Result<T, Told> {
+        said.map_err(|error| self.tell(out, column, self.fault(error, column)))
     }
 
     // Where the writes end.
     fn at(self, out: &mut Output) -> Result<Option<At>, Told> {
-        match at_in(self.row.bytes(Column::At)) {
-            Ok(at) => Ok(at),
-            Err(error) => Err(self.tell(out, Column::At, WordFault::Place(error))),
-        }
+        at_in(self.row.below.bytes(Column::At))
+            .map_err(|error| self.tell(out, Column::At, WordFault::Place(error)))
     }
 }
 
@@ -111,25 +94,29 @@ pub(crate) fn read_scene(sheet: Sheet, row: Row, out: &mut Output) -> Result<Sce
     let source = read_source(sheet.folder, row, out);
     let file = source.unwrap_or(None);
     let reader = Reader { row, file };
-    let prg = reader.single(out, Column::Prg);
-    let chr = reader.single(out, Column::Chr);
-    let revision = reader.single(out, Column::Revision);
-    let mirroring = reader.single(out, Column::Mirroring);
-    let window = reader.window(out);
+    let cells = FiledRow {
+        row: row.below,
+        file,
+    };
+    let prg = reader.read(out, Column::Prg, cells.prg());
+    let chr = reader.read(out, Column::Chr, cells.chr());
+    let revision = reader.read(out, Column::Revision, cells.revision());
+    let mirroring = reader.read(out, Column::Mirroring, cells.mirroring());
+    let window = reader.read(out, Column::Window, cells.window());
     let at = reader.at(out);
-    let interrupts = reader.single(out, Column::Interrupts);
+    let interrupts = reader.read(out, Column::Interrupts, cells.interrupts());
     let alloc = sheet.folder.rt.alloc();
     let writes = read_steps(alloc, row, Column::Writes, out);
     let menu = read_steps(alloc, row, Column::Menu, out);
     let asked = read_letters(row, out);
     source?;
     Ok(Scene {
-        layout: layout_for(file.unwrap_or(unfiled()), file.is_some(), prg?, chr?),
-        mirroring: Mirroring::try_from((mirroring? % 256) as u8).unwrap_or(Mirroring::Vertical),
-        revision: Revision::try_from((revision? % 256) as u8).unwrap_or(Revision::A),
+        layout: cells.layout(prg?, chr?),
+        mirroring: mirroring?,
+        revision: revision?,
         window: window?,
         at: at?,
-        unmasked: interrupts? == 1,
+        unmasked: interrupts? == Interrupts::Open,
         writes: writes?,
         menu: menu?,
         asked: asked?,

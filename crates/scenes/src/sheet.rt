@@ -91,7 +91,7 @@ fn put_name(out: &mut Output, row: Row) {
         .filter(|cell| !cell.bytes.is_empty())
     {
         put!(out; ": ");
-        put_cell(out, cell.bytes, cell.quoted);
+        put_cell(out, cell.unquoted());
     }
     put!(out; "\n");
 }
@@ -118,12 +118,12 @@ impl Sheet<'_> {
     }
 
     fn play_row(self, row: Row, shape: Shape, out: &mut Output) -> Outcome {
-        if !shape.quoted_right {
+        if shape.quotes.is_err() {
             return Outcome::Bad;
         }
-        match shape.fault(self.header.cells) {
-            None => self.play_scene(row, out),
-            Some(fault) => {
+        match shape.check() {
+            Ok(()) => self.play_scene(row, out),
+            Err(fault) => {
                 row.tell(out, None, fault);
                 if fault == Fault::Blank {
                     Outcome::Blank
@@ -143,12 +143,7 @@ impl Sheet<'_> {
             if rest.is_empty() {
                 break;
             }
-            let row = Row {
-                header: self.header.row,
-                cells: rest,
-                separator: self.header.separator,
-                number,
-            };
+            let row = self.header.above(rest, number);
             let shape = row.read(out);
             totals.add(self.play_row(row, shape, out));
             told = tell(self.folder.rt.stderr(), number, totals.swept(), told);

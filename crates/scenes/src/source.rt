@@ -1,35 +1,17 @@
-// What a row's sizes, revision and mirroring come from: the cartridge file that it names, or its cells.
+// The cartridge file that a row names.
 use crate::faults::{Told, WordFault};
 use crate::row::Row;
 use crate::sheet::Folder;
 use cartridge::Cartridge;
 use cartridge_files::read_file;
 use cartridge_header::read_header;
-use memory_layout::MemoryLayout;
 use scene_cells::columns::Column;
+use scene_cells::quotes::Unquoted;
 use scene_paths::{name_in, path_of};
 use text_output::Output;
-use vrc6_banking::banking::{Mirroring, Revision};
 
 // The bytes that a path may have.
 const MOST_PATH: usize = 4095;
-
-// Stands for empty cells where there is no file: layout S of document 01, revision A, vertical mirroring.
-pub(crate) fn unfiled() -> Cartridge {
-    Cartridge {
-        layout: MemoryLayout {
-            prg_rom: 131072,
-            chr: 131072,
-            chr_writable: false,
-            prg_ram: 8192,
-            ciram: 2048,
-        },
-        mirroring: Mirroring::Vertical,
-        revision: Revision::A,
-        prg_start: 0,
-        chr_start: 0,
-    }
-}
 
 fn cartridge_at(rt: &HostRuntime, path: &[u8]) -> Result<Cartridge, WordFault> {
     match read_file(rt, path) {
@@ -39,8 +21,8 @@ fn cartridge_at(rt: &HostRuntime, path: &[u8]) -> Result<Cartridge, WordFault> {
 }
 
 // The file that a cell of a sheet names.
-fn cartridge_named(folder: Folder, cell: &[u8], quoted: bool) -> Result<Cartridge, WordFault> {
-    match path_of::<MOST_PATH>(folder.path, cell, quoted) {
+fn cartridge_named(folder: Folder, cell: Unquoted) -> Result<Cartridge, WordFault> {
+    match path_of::<MOST_PATH>(folder.path, cell) {
         Some(path) => cartridge_at(folder.rt, path.as_slice()),
         None => Err(WordFault::Unread),
     }
@@ -59,7 +41,7 @@ pub(crate) fn read_source(
     if name.is_empty() {
         return Ok(None);
     }
-    match cartridge_named(folder, cell.bytes, cell.quoted) {
+    match cartridge_named(folder, cell.unquoted()) {
         Ok(cartridge) => Ok(Some(cartridge)),
         Err(fault) => {
             row.tell_word(out, Column::File, name, fault);
