@@ -1,13 +1,13 @@
 -- The examples, computed. Assumes nothing.
 use mathlib.Core.Path.{refl}
-use Rattle.text_words.specs.Names.{nth_word, place_in}
 use Rattle.text_words.specs.Numbers.{number_of}
-use Rattle.script_lines.specs.Lines.{argument_by, arguments_behind, arguments_of, letter_behind, line_read}
-use Rattle.script_lines.specs.Readings.{name_after, number_after, value_after}
+use Rattle.script_lines.specs.Lines.{call_behind, creation_after, layout_after, line_behind, line_read, name_of}
+use Rattle.script_lines.specs.Readings.{named_after, number_after, value_after}
+use Rattle.script_lines.specs.Values.{named_value, value_behind}
 use Rattle.script_lines.specs.Laws.{LineExamples}
 
 pub examples : LineExamples
-unfolding argument_by arguments_behind arguments_of letter_behind line_read name_after nth_word number_after number_of place_in value_after
+unfolding call_behind creation_after layout_after line_behind line_read name_of named_after named_value number_after number_of value_after value_behind
 examples =
     record {
       read = refl;
@@ -34,6 +34,7 @@ examples =
       no_number = refl;
       no_decimal = refl;
       too_large = refl;
+      no_mirroring = refl;
       too_many = refl;
       no_choice = refl;
       no_setting = refl;

@@ -1,3 +1,5 @@
+pub mod Errors
 pub mod Laws
 pub mod Lines
 pub mod Readings
+pub mod Values

@@ -1,175 +1,161 @@
--- What a line of a script says: its name by its place, its arguments by the form that the name has (oracle/FORMAT.md). Assumes nothing.
-use Rattle.std.specs.Prelude.{Bool, false, cond, List, [], ◌∷◌, ◌++◌, ℕ, zero, suc, ◌+◌, eqb, length, get_or, Option, Some, None, Result, Ok, Err, unwrap_or, slice_get}
-use Rattle.text_words.specs.Names.{byte_of_nth, codes, place_in, words_of}
+-- What a line of a script says: its name, and the arguments that follow the name (oracle/FORMAT.md). Assumes nothing.
+use Rattle.std.specs.Prelude.{Bool, true, false, cond, List, [], ◌∷◌, ℕ, eqb, get_or, Option, Some, None, Result, Ok, Err}
+use Rattle.memory_layout.specs.declared.regions.MemoryLayout.{MemoryLayout}
+use Rattle.text_words.specs.Names.{codes, words_of}
+use Rattle.vrc6_banking.specs.declared.banking.Revision.{Revision}
+use Rattle.vrc6_slots.specs.declared.Mirroring.{Mirroring}
 use Rattle.script_lines.specs.declared.error.LineError.{LineError}
 use Rattle.script_lines.specs.declared.error.LineError.TheVariants as Fault
-use Rattle.script_lines.specs.declared.line.Bytes.{Bytes}
+use Rattle.script_lines.specs.declared.line.Bytes.TheVariants as Bytes
+use Rattle.script_lines.specs.declared.line.CallLine.{CallLine}
 use Rattle.script_lines.specs.declared.line.Creation.{Creation}
 use Rattle.script_lines.specs.declared.line.Line.{Line}
-use Rattle.script_lines.specs.declared.line.Place.{Place}
-use Rattle.script_lines.specs.declared.names.CallName.TheVariants as CallName
+use Rattle.script_lines.specs.declared.names.CallName.{CallName}
 use Rattle.script_lines.specs.declared.names.Name.{Name}
-use Rattle.script_lines.specs.declared.values.AnswerValue.TheVariants as AnswerValue
-use Rattle.script_lines.specs.declared.values.BoardValue.TheVariants as BoardValue
-use Rattle.script_lines.specs.declared.values.Buffer.{Buffer}
-use Rattle.script_lines.specs.declared.values.Value.{Value}
-use Rattle.script_lines.specs.Readings.{Reading, largest, name_after, number_after, value_after}
+use Rattle.script_lines.specs.Readings.{Reader, Reading, address_after, byte_after, decimal_after, given, hexadecimal_after, mirroring_after, named, named_after, then, value_after}
+use Rattle.script_lines.specs.Values.{buffer_after, named_value}
 
--- ---- names and forms
+-- ---- names
 -- the names of lines: each call by its letter and its word, then what sets up, shows and expects
-abbrev pub line_names : List ℕ
-line_names = codes "R read W write P picture-read Q picture-write V view Z reset L level F forecast B read-bus C clock N S create G H D lend poke expect O open-bus ="
+abbrev pub line_names : List (List ℕ × Name)
+line_names =
+    (codes "R", Name.Call CallName.Read) ∷
+    (codes "read", Name.Call CallName.Read) ∷
+    (codes "W", Name.Call CallName.Write) ∷
+    (codes "write", Name.Call CallName.Write) ∷
+    (codes "P", Name.Call CallName.PictureRead) ∷
+    (codes "picture-read", Name.Call CallName.PictureRead) ∷
+    (codes "Q", Name.Call CallName.PictureWrite) ∷
+    (codes "picture-write", Name.Call CallName.PictureWrite) ∷
+    (codes "V", Name.Call CallName.View) ∷
+    (codes "view", Name.Call CallName.View) ∷
+    (codes "Z", Name.Call CallName.Reset) ∷
+    (codes "reset", Name.Call CallName.Reset) ∷
+    (codes "L", Name.Call CallName.Level) ∷
+    (codes "level", Name.Call CallName.Level) ∷
+    (codes "F", Name.Call CallName.Forecast) ∷
+    (codes "forecast", Name.Call CallName.Forecast) ∷
+    (codes "B", Name.Call CallName.ReadBus) ∷
+    (codes "read-bus", Name.Call CallName.ReadBus) ∷
+    (codes "C", Name.Clock) ∷
+    (codes "clock", Name.Clock) ∷
+    (codes "N", Name.Filled) ∷
+    (codes "S", Name.LayoutS) ∷
+    (codes "create", Name.Create) ∷
+    (codes "G", Name.Registers) ∷
+    (codes "H", Name.Buffers) ∷
+    (codes "D", Name.Dump) ∷
+    (codes "lend", Name.Lend) ∷
+    (codes "poke", Name.Poke) ∷
+    (codes "expect", Name.Expect) ∷
+    (codes "O", Name.OpenBus) ∷
+    (codes "open-bus", Name.OpenBus) ∷
+    (codes "=", Name.Heading) ∷ []
 
--- what they stand for
-abbrev pub lines_named : List Name
-lines_named =
-    Name.Call CallName.Read ∷ Name.Call CallName.Read ∷ Name.Call CallName.Write ∷ Name.Call CallName.Write ∷
-    Name.Call CallName.PictureRead ∷ Name.Call CallName.PictureRead ∷ Name.Call CallName.PictureWrite ∷
-    Name.Call CallName.PictureWrite ∷ Name.Call CallName.View ∷ Name.Call CallName.View ∷ Name.Call CallName.Reset ∷
-    Name.Call CallName.Reset ∷ Name.Call CallName.Level ∷ Name.Call CallName.Level ∷ Name.Call CallName.Forecast ∷
-    Name.Call CallName.Forecast ∷ Name.Call CallName.ReadBus ∷ Name.Call CallName.ReadBus ∷ Name.Clock ∷ Name.Clock ∷
-    Name.Filled ∷ Name.LayoutS ∷ Name.Create ∷ Name.Registers ∷ Name.Buffers ∷ Name.Dump ∷ Name.Lend ∷ Name.Poke ∷ Name.Expect ∷
-    Name.OpenBus ∷ Name.OpenBus ∷ Name.Heading ∷ []
+-- what a line's first word names
+unfoldable pub name_of : List ℕ → Option Name
+name_of word = named line_names word
 
--- a line's form: a letter for each argument
-abbrev pub line_forms : List ℕ
-line_forms = codes "a a ab ab a a ab ab a a k k - - - - ab ab d d ddwddmvx mv ddwddmv - - - ld n n y y t"
-
--- the names of values: those of the board and its buffers, then what the last call answered, from `view-byte` on
-abbrev pub value_names : List ℕ
-value_names =
-    codes
-    "entry picture-entry chr nametable fixed changing layout pulse1 pulse2 saw mode prg-16k prg-8k mirroring revision reload counter prescaler pending enabled after-acknowledge cycle halt sum open-bus view-byte view-length refusal byte ticks first-tick last-tick interrupt sounding level level-bits forecast untouched kept"
-
--- what they stand for
-abbrev pub values : List Value
-values =
-    Value.Board BoardValue.Entry ∷ Value.Board BoardValue.PictureEntry ∷ Value.Board BoardValue.Chr ∷
-    Value.Board BoardValue.Nametable ∷ Value.Byte Buffer.Fixed ∷ Value.Byte Buffer.Changing ∷ Value.Board BoardValue.Layout ∷
-    Value.Board BoardValue.Pulse1 ∷ Value.Board BoardValue.Pulse2 ∷ Value.Board BoardValue.Saw ∷ Value.Board BoardValue.Mode ∷
-    Value.Board BoardValue.Prg16 ∷ Value.Board BoardValue.Prg8 ∷ Value.Board BoardValue.Mirroring ∷
-    Value.Board BoardValue.Revision ∷ Value.Board BoardValue.Reload ∷ Value.Board BoardValue.Counter ∷
-    Value.Board BoardValue.Prescaler ∷ Value.Board BoardValue.Pending ∷ Value.Board BoardValue.Enabled ∷
-    Value.Board BoardValue.AfterAcknowledge ∷ Value.Board BoardValue.Cycle ∷ Value.Board BoardValue.Halt ∷
-    Value.Board BoardValue.Sum ∷ Value.Board BoardValue.OpenBus ∷ Value.ViewByte ∷ Value.Answer AnswerValue.ViewLength ∷
-    Value.Answer AnswerValue.Refusal ∷ Value.Answer AnswerValue.Byte ∷ Value.Answer AnswerValue.Ticks ∷
-    Value.Answer AnswerValue.FirstTick ∷ Value.Answer AnswerValue.LastTick ∷ Value.Answer AnswerValue.Interrupt ∷
-    Value.Answer AnswerValue.Sounding ∷ Value.Answer AnswerValue.Level ∷ Value.Answer AnswerValue.LevelBits ∷
-    Value.Answer AnswerValue.Forecast ∷ Value.Untouched ∷ Value.Kept ∷ []
-
--- a value's form: its place, and the number
-abbrev pub value_forms : List ℕ
-value_forms = codes "aq aq dq dq dq dq fq cq cq cq -q -q -q -q -q -q -q -q -q -q -q -q -q -q -q dq -q -q -q -q -q -q -q -q -q -q -q -q -q"
-
--- the fields of a layout
-abbrev pub layout_fields : List ℕ
-layout_fields = codes "prg chr writable ram ciram"
-
--- the fields of a channel, pulse or saw
-abbrev pub channel_fields : List ℕ
-channel_fields = codes "enabled volume duty ignore-duty frequency timer step shift accumulator rate"
+-- the letter of a call's answer
+abbrev pub call_letter : CallLine → List ℕ
+call_letter (CallLine.Read addr) = codes "R"
+call_letter (CallLine.Write addr val) = codes "W"
+call_letter (CallLine.PictureRead addr) = codes "P"
+call_letter (CallLine.PictureWrite addr val) = codes "Q"
+call_letter (CallLine.View addr) = codes "V"
+call_letter CallLine.SoftReset = codes "Z"
+call_letter CallLine.HardReset = codes "Z"
+call_letter CallLine.Level = codes "L"
+call_letter CallLine.Forecast = codes "F"
+call_letter (CallLine.ReadBus addr val) = codes "B"
 
 -- ---- arguments
--- the argument of a letter: a an address, b a byte, x a hexadecimal number, d a decimal one, m a mirroring, w r or w, v a revision,
--- k a reset, l a buffer, y no or yes, n a value's name, f a layout's field, c a channel's field, q a value, t the rest of the line; none otherwise
-unfoldable pub argument_by : (letter : ℕ) → List (List ℕ) → Result Reading LineError
-argument_by letter words =
-    cond (eqb letter 97) (number_after 16 65_535 Fault.NoHexadecimal words)
-    (cond (eqb letter 98) (number_after 16 255 Fault.NoHexadecimal words)
-    (cond (eqb letter 120) (number_after 16 largest Fault.NoHexadecimal words)
-    (cond (eqb letter 100) (number_after 10 largest Fault.NoDecimal words)
-    (cond (eqb letter 109) (number_after 10 4 Fault.NoDecimal words)
-    (cond (eqb letter 119) (name_after (codes "r w") words)
-    (cond (eqb letter 118) (name_after (codes "A B") words)
-    (cond (eqb letter 107) (name_after (codes "s h soft hard") words)
-    (cond (eqb letter 108) (name_after (codes "fixed changing") words)
-    (cond (eqb letter 121) (name_after (codes "no yes") words)
-    (cond (eqb letter 110) (name_after value_names words)
-    (cond (eqb letter 102) (name_after layout_fields words)
-    (cond (eqb letter 99) (name_after channel_fields words)
-    (cond (eqb letter 113) (value_after words)
-    (cond (eqb letter 116) (Ok (record { value = 0; rest = [] }))
-    (Ok (record { value = 0; rest = words }))))))))))))))))
+-- CHR can be written or not
+abbrev pub access_after : Reader Bool
+access_after = named_after ((codes "r", false) ∷ (codes "w", true) ∷ [])
 
--- a letter of one of the forms; `-` behind its end
-abbrev pub letter_in : (forms : List ℕ) → (place i : ℕ) → ℕ
-letter_in forms place i = unwrap_or (byte_of_nth place i forms) 45
+-- a setting, on or off
+abbrev pub setting_after : Reader Bool
+setting_after = named_after ((codes "no", false) ∷ (codes "yes", true) ∷ [])
 
--- the letter of the argument behind those so far: behind the name of a value those of the value follow
-unfoldable pub letter_behind : (place : ℕ) → (so_far : List ℕ) → ℕ
-letter_behind place [] = letter_in line_forms place 0
-letter_behind place (value ∷ more) =
-    cond (eqb (letter_in line_forms place 0) 110) (letter_in value_forms value (length more)) (letter_in line_forms place (length more + 1))
+abbrev pub revision_after : Reader Revision
+revision_after = named_after ((codes "A", Revision.A) ∷ (codes "B", Revision.B) ∷ [])
 
--- ---- a line
--- what follows an argument
-abbrev pub behind : Result Reading LineError → (Reading → Result (List ℕ) LineError) → Result (List ℕ) LineError
-behind (Ok r) next = next r
-behind (Err e) next = Err e
+abbrev pub reset_after : Reader CallLine
+reset_after =
+    named_after
+    ((codes "s", CallLine.SoftReset) ∷ (codes "h", CallLine.HardReset) ∷ (codes "soft", CallLine.SoftReset) ∷ (codes "hard", CallLine.HardReset) ∷ [])
 
--- the arguments so far, with so many more; a further word is one too many
-unfoldable pub arguments_behind : (place n : ℕ) → (so_far : List ℕ) → List (List ℕ) → Result (List ℕ) LineError
-arguments_behind place zero so_far [] = Ok so_far
-arguments_behind place zero so_far (word ∷ rest) = Err Fault.TooMany
-arguments_behind place (suc n) so_far words =
-    behind (argument_by (letter_behind place so_far) words) (λ (r : Reading). arguments_behind place n (so_far ++ r.value ∷ []) r.rest)
+-- a layout: PRG, CHR, whether CHR can be written, PRG RAM and CIRAM
+unfoldable pub layout_after : Reader MemoryLayout
+layout_after words =
+    then decimal_after (λ prg. then decimal_after (λ chr. then access_after (λ writable. then decimal_after (λ ram. then decimal_after (λ ciram.
+    given (record { prg_rom = prg; chr = chr; chr_writable = writable; prg_ram = ram; ciram = ciram })))))) words
 
--- the eight arguments of the line whose name has this place, from the words behind it
-unfoldable pub arguments_of : (place : ℕ) → List (List ℕ) → Result (List ℕ) LineError
-arguments_of place words = arguments_behind place 8 [] words
-
--- a board's layout, the numbers of its mirroring and its revision, and what the buffers hold
-abbrev pub creation_of : List ℕ → Bytes → Creation
-creation_of args bytes =
-    record {
-      prg = get_or args 0 0;
-      chr = get_or args 1 0;
-      writable = eqb (get_or args 2 0) 1;
-      ram = get_or args 3 0;
-      ciram = get_or args 4 0;
-      mirroring = get_or args 5 0;
-      revision = get_or args 6 0;
-      bytes = bytes;
-    }
+-- a board over the buffers as they are
+unfoldable pub creation_after : Reader Creation
+creation_after words =
+    then layout_after (λ l. then mirroring_after (λ m. then revision_after (λ r.
+    given (record { layout = l; mirroring = m; revision = r; bytes = Bytes.Kept })))) words
 
 -- layout S over buffers of zeros
-abbrev pub layout_s : (mirroring revision : ℕ) → Creation
-layout_s mirroring revision =
-    record { prg = 131_072; chr = 131_072; writable = false; ram = 8_192; ciram = 2_048; mirroring = mirroring; revision = revision; bytes = Bytes.Zeros }
+abbrev pub layout_s : Mirroring → Revision → Creation
+layout_s m r =
+    record {
+      layout = record { prg_rom = 131_072; chr = 131_072; chr_writable = false; prg_ram = 8_192; ciram = 2_048 };
+      mirroring = m;
+      revision = r;
+      bytes = Bytes.Zeros;
+    }
 
--- a value by the place of its name
-abbrev pub place_of : (name at : ℕ) → Place
-place_of name at = record { value = unwrap_or (slice_get values name) Value.Kept; at = at }
+-- the call of a name, with its arguments
+unfoldable pub call_behind : CallName → Reader CallLine
+call_behind CallName.Read = then address_after (λ addr. given (CallLine.Read addr))
+call_behind CallName.Write = then address_after (λ addr. then byte_after (λ val. given (CallLine.Write addr val)))
+call_behind CallName.PictureRead = then address_after (λ addr. given (CallLine.PictureRead addr))
+call_behind CallName.PictureWrite = then address_after (λ addr. then byte_after (λ val. given (CallLine.PictureWrite addr val)))
+call_behind CallName.View = then address_after (λ addr. given (CallLine.View addr))
+call_behind CallName.Reset = reset_after
+call_behind CallName.Level = given CallLine.Level
+call_behind CallName.Forecast = given CallLine.Forecast
+call_behind CallName.ReadBus = then address_after (λ addr. then byte_after (λ bus. given (CallLine.ReadBus addr bus)))
 
--- a line of a known name
-abbrev pub line_saying : Name → List ℕ → Line
-line_saying (Name.Call call) args = Line.Call call (get_or args 0 0) (get_or args 1 0)
-line_saying Name.Clock args = Line.Clock (get_or args 0 0)
-line_saying Name.Filled args = Line.Create (creation_of args (Bytes.Filled (get_or args 7 0)))
-line_saying Name.LayoutS args = Line.Create (layout_s (get_or args 0 0) (get_or args 1 0))
-line_saying Name.Create args = Line.Create (creation_of args Bytes.Kept)
-line_saying Name.Registers args = Line.Registers
-line_saying Name.Buffers args = Line.Buffers
-line_saying Name.Dump args = Line.Dump
-line_saying Name.Lend args = Line.Lend (cond (eqb (get_or args 0 0) 0) Buffer.Fixed Buffer.Changing) (get_or args 1 0)
-line_saying Name.Poke args = Line.Poke (place_of (get_or args 0 0) (get_or args 1 0)) (get_or args 2 0)
-line_saying Name.Expect args = Line.Expect (place_of (get_or args 0 0) (get_or args 1 0)) (get_or args 2 0)
-line_saying Name.OpenBus args = Line.OpenBus (eqb (get_or args 0 0) 1)
-line_saying Name.Heading args = Line.Heading
+-- ---- a line
+-- all words that are left, whatever they are
+abbrev pub all_words : Line → Reader Line
+all_words line words = Ok (record { value = line; rest = [] })
 
--- a line of this name with its arguments, if nothing is wrong with them
-abbrev pub line_from : Name → Result (List ℕ) LineError → Result Line LineError
-line_from name (Ok args) = Ok (line_saying name args)
-line_from name (Err e) = Err e
+-- the line of a name, with its arguments
+unfoldable pub line_behind : Name → Reader Line
+line_behind (Name.Call name) = then (call_behind name) (λ call. given (Line.Call call))
+line_behind Name.Clock = then decimal_after (λ n. given (Line.Clock n))
+line_behind Name.Filled =
+    then creation_after (λ c. then hexadecimal_after (λ seed. given (Line.Create (record c { bytes = Bytes.Filled seed }))))
+line_behind Name.LayoutS = then mirroring_after (λ m. then revision_after (λ r. given (Line.Create (layout_s m r))))
+line_behind Name.Create = then creation_after (λ c. given (Line.Create c))
+line_behind Name.Registers = given Line.Registers
+line_behind Name.Buffers = given Line.Buffers
+line_behind Name.Dump = given Line.Dump
+line_behind Name.Lend = then buffer_after (λ buffer. then decimal_after (λ n. given (Line.Lend buffer n)))
+line_behind Name.Poke = then named_value (λ v. then value_after (λ n. given (Line.Poke v n)))
+line_behind Name.Expect = then named_value (λ v. then value_after (λ n. given (Line.Expect v n)))
+line_behind Name.OpenBus = then setting_after (λ on. given (Line.OpenBus on))
+line_behind Name.Heading = all_words Line.Heading
 
--- what a line's name stands for, by its place
-abbrev pub name_at : (place : ℕ) → Name
-name_at place = unwrap_or (slice_get lines_named place) Name.Heading
+-- a line behind which no word is left
+abbrev pub whole : Line → List (List ℕ) → Result Line LineError
+whole line [] = Ok line
+whole line (word ∷ rest) = Err Fault.TooMany
 
--- a line by the place of its name
-abbrev pub line_named : Option ℕ → List (List ℕ) → Result Line LineError
+-- a line from its name and its arguments
+abbrev pub line_of : Result (Reading Line) LineError → Result Line LineError
+line_of (Ok r) = whole r.value r.rest
+line_of (Err e) = Err e
+
+-- a line by its name
+abbrev pub line_named : Option Name → List (List ℕ) → Result Line LineError
 line_named None rest = Err Fault.UnknownLine
-line_named (Some place) rest = line_from (name_at place) (arguments_of place rest)
+line_named (Some name) rest = line_of (line_behind name rest)
 
 -- a line is a comment, by its first word
 abbrev pub is_comment : List ℕ → Bool
@@ -178,7 +164,7 @@ is_comment word = eqb (get_or word 0 0) 35
 -- a line by its first word: nothing if there is none or it begins with `#`, wrong if it is no line's name
 abbrev pub line_with : List (List ℕ) → Result Line LineError
 line_with [] = Ok Line.Nothing
-line_with (word ∷ rest) = cond (is_comment word) (Ok Line.Nothing) (line_named (place_in line_names word) rest)
+line_with (word ∷ rest) = cond (is_comment word) (Ok Line.Nothing) (line_named (name_of word) rest)
 
 -- what a line says
 unfoldable pub line_read : List ℕ → Result Line LineError

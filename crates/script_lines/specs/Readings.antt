@@ -1,27 +1,48 @@
 -- A line's arguments, read one after the other (oracle/FORMAT.md). Assumes nothing.
-use Rattle.std.specs.Prelude.{cond, List, [], ◌∷◌, ℕ, eqb, drop, get_or, Option, Some, None, Result, Ok, Err}
+use Rattle.std.specs.Prelude.{cond, List, [], ◌∷◌, ℕ, eqb, drop, get_or, slice_get, Option, Some, None, option_map, Result, Ok, Err}
+use Rattle.std.specs.List.{find}
 use Rattle.text_words.specs.declared.number.NumberError.{NumberError}
 use Rattle.text_words.specs.declared.number.NumberError.TheVariants.{NoNumber, TooLarge}
 use Rattle.text_words.specs.Numbers.{number_of}
-use Rattle.text_words.specs.Names.{codes, place_in}
+use Rattle.text_words.specs.Names.{codes, same_name}
+use Rattle.vrc6_slots.specs.declared.Mirroring.{Mirroring}
+use Rattle.vrc6_slots.specs.declared.Mirroring.TheVariants.{Vertical, Horizontal, SingleScreenA, SingleScreenB, FourScreen}
 use Rattle.script_lines.specs.declared.error.LineError.{LineError}
 use Rattle.script_lines.specs.declared.error.LineError.TheVariants as Fault
 
 -- an argument: its value, and the words behind it
-pub record Reading : Type 0 where
-  pub value : ℕ
+pub record Reading (A : Type 0) : Type 0 where
+  pub value : A
   pub rest : List (List ℕ)
 
+-- what reads an argument
+abbrev pub Reader : Type 0 → Type 0
+Reader A = List (List ℕ) → Result (Reading A) LineError
+
 -- an argument from the value that was read, with the words that are left
-abbrev pub read : List (List ℕ) → Result ℕ LineError → Result Reading LineError
+abbrev pub read : {A : Type 0} → List (List ℕ) → Result A LineError → Result (Reading A) LineError
 read rest (Ok v) = Ok (record { value = v; rest = rest })
 read rest (Err e) = Err e
 
+-- a value that takes no word
+abbrev pub given : {A : Type 0} → A → Reader A
+given v words = Ok (record { value = v; rest = words })
+
+-- what follows an argument
+abbrev pub behind : {A B : Type 0} → Result (Reading A) LineError → (A → Reader B) → Result (Reading B) LineError
+behind (Ok r) next = next r.value r.rest
+behind (Err e) next = Err e
+
+-- an argument, and then what follows it
+abbrev pub then : {A B : Type 0} → Reader A → (A → Reader B) → Reader B
+then first next words = behind (first words) next
+
 -- the next word, by a rule for it
-abbrev pub following : (List ℕ → Result ℕ LineError) → List (List ℕ) → Result Reading LineError
+abbrev pub following : {A : Type 0} → (List ℕ → Result A LineError) → Reader A
 following rule [] = Err Fault.Missing
 following rule (word ∷ rest) = read rest (rule word)
 
+-- ---- numbers
 -- what a word that is no such number is wrong by; none is for one that is no number at all
 abbrev pub number_fault : (none : LineError) → NumberError → LineError
 number_fault none NoNumber = none
@@ -37,35 +58,57 @@ abbrev pub marked_number : (base limit : ℕ) → List ℕ → Result ℕ Number
 marked_number base limit word = cond (eqb (get_or word 0 0) 36) (number_of 16 limit (drop 1 word)) (number_of base limit word)
 
 -- a number in a base, up to a limit
-unfoldable pub number_after : (base limit : ℕ) → (none : LineError) → List (List ℕ) → Result Reading LineError
+unfoldable pub number_after : (base limit : ℕ) → (none : LineError) → Reader ℕ
 number_after base limit none words = following (λ (word : List ℕ). judged none (marked_number base limit word)) words
-
--- the place of a name, or nothing of them
-abbrev pub chosen : Option ℕ → Result ℕ LineError
-chosen (Some place) = Ok place
-chosen None = Err Fault.NoChoice
-
--- one of the names, by its place
-unfoldable pub name_after : (names : List ℕ) → List (List ℕ) → Result Reading LineError
-name_after names words = following (λ (word : List ℕ). chosen (place_in names word)) words
 
 -- the largest 32-bit number
 abbrev pub largest : ℕ
 largest = 4_294_967_295
 
--- the words that stand for numbers: no 0, yes 1, silent 1, held 2, playing 3, none the largest
-abbrev pub value_words : List ℕ
-value_words = codes "no yes silent held playing none"
+-- an address, a byte, and any hexadecimal or decimal number
+abbrev pub address_after : Reader ℕ
+address_after = number_after 16 65_535 Fault.NoHexadecimal
 
--- the number of such a word, by its place
-abbrev pub value_number : (place : ℕ) → ℕ
-value_number place = get_or (0 ∷ 1 ∷ 1 ∷ 2 ∷ 3 ∷ largest ∷ []) place 0
+abbrev pub byte_after : Reader ℕ
+byte_after = number_after 16 255 Fault.NoHexadecimal
+
+abbrev pub hexadecimal_after : Reader ℕ
+hexadecimal_after = number_after 16 largest Fault.NoHexadecimal
+
+abbrev pub decimal_after : Reader ℕ
+decimal_after = number_after 10 largest Fault.NoDecimal
+
+-- ---- names
+-- what a choice comes to
+abbrev pub chosen : {A : Type 0} → (none : LineError) → Option A → Result A LineError
+chosen none (Some v) = Ok v
+chosen none None = Err none
+
+-- what a name stands for, by a table of names
+abbrev pub named : {A : Type 0} → List (List ℕ × A) → List ℕ → Option A
+named table word = option_map (λ entry. entry.1) (find (λ entry. same_name entry.0 word) table)
+
+-- one of the names, as what it stands for
+unfoldable pub named_after : {A : Type 0} → List (List ℕ × A) → Reader A
+named_after table words = following (λ (word : List ℕ). chosen Fault.NoChoice (named table word)) words
+
+-- the mirrorings, by their numbers
+abbrev pub mirrorings : List Mirroring
+mirrorings = Vertical ∷ Horizontal ∷ SingleScreenA ∷ SingleScreenB ∷ FourScreen ∷ []
+
+-- a mirroring by its number; a number of none is too large
+abbrev pub mirroring_after : Reader Mirroring
+mirroring_after = then (number_after 10 255 Fault.NoDecimal) (λ n words. read words (chosen Fault.TooLarge (slice_get mirrorings n)))
+
+-- the words that stand for numbers
+abbrev pub numbers : List (List ℕ × ℕ)
+numbers = (codes "no", 0) ∷ (codes "yes", 1) ∷ (codes "silent", 1) ∷ (codes "held", 2) ∷ (codes "playing", 3) ∷ (codes "none", largest) ∷ []
 
 -- a value's word: one of those words, or a decimal number
 abbrev pub value_of_word : Option ℕ → List ℕ → Result ℕ LineError
-value_of_word (Some place) word = Ok (value_number place)
+value_of_word (Some n) word = Ok n
 value_of_word None word = judged Fault.NoDecimal (marked_number 10 largest word)
 
 -- a value
-unfoldable pub value_after : List (List ℕ) → Result Reading LineError
-value_after words = following (λ (word : List ℕ). value_of_word (place_in value_words word) word) words
+unfoldable pub value_after : Reader ℕ
+value_after words = following (λ (word : List ℕ). value_of_word (named numbers word) word) words

@@ -1,19 +1,31 @@
 // A line's arguments, one after the other.
-ghost use Rattle.std.specs.Prelude.{◌≡◌, ◌≤◌, ◌<◌, length, IfOk};
+ghost use Rattle.std.specs.Prelude.{◌≡◌, ◌≤◌, map, IfOk};
 ghost use Rattle.text_words.specs.Names.{words_of};
-ghost use Rattle.script_lines.specs.Readings.{number_fault, marked_number, name_after, number_after, read, value_after, value_number};
+ghost use Rattle.script_lines.specs.Readings.{address_after, byte_after, decimal_after, hexadecimal_after, marked_number, mirroring_after, named, named_after, number_after, number_fault, read, value_after};
 
 use crate::error::LineError;
-use text_words::names::{Words, place_in};
+use text_words::names::{Words, same_name};
 use text_words::number::{NumberError, in_base};
+use vrc6_slots::Mirroring;
 
 // The number of `none`, which stands where any value may: no forecast is as large.
 pub const NONE: u32 = u32::MAX;
 
+// The words that stand for numbers.
+const NUMBERS: [(&[u8], u32); 6] = [
+    (b"no", 0),
+    (b"yes", 1),
+    (b"silent", 1),
+    (b"held", 2),
+    (b"playing", 3),
+    (b"none", NONE),
+];
+
 // A word's number, hexadecimal behind `$`.
 fn marked(word: &[u8], base: u64, limit: u32) -> Result<u32, NumberError>
     requires { (1 ≤ base) × (base ≤ 16) }
-    ensures { result ≡ marked_number base limit word.now }
+    ensures value { result ≡ marked_number base limit word.now }
+    ensures limit { IfOk result (λ n. n ≤ limit) }
 {
     match word {
         [b'$', digits @ ..] => in_base(digits, 16, limit),
@@ -40,33 +52,64 @@ pub fn number_after(
     none: LineError,
 ) -> Result<u32, LineError>
     requires { (1 ≤ base) × (base ≤ 16) }
-    ensures { read (words_of words.new.text.now) result ≡ number_after base limit none (words_of words.old.text.now) }
+    ensures value { read (words_of words.new.text.now) result ≡ number_after base limit none (words_of words.old.text.now) }
+    ensures limit { IfOk result (λ n. n ≤ limit) }
 {
     let word = words.next().ok_or(LineError::Missing)?;
     marked(word, base, limit).map_err(|error| fault(error, none))
 }
 
-// One of the names, by its place.
-#[tactic(auto, unfolding(crate::specs::Readings::name_after))]
-pub fn name_after(words: &mut Words<'_>, names: &[u8]) -> Result<usize, LineError>
-    ensures value { read (words_of words.new.text.now) result ≡ name_after names.now (words_of words.old.text.now) }
-    ensures upper_bound { IfOk result (λ place. place < length names.now) }
+pub(crate) fn address_after(words: &mut Words<'_>) -> Result<u16, LineError>
+    ensures { read (words_of words.new.text.now) result ≡ address_after (words_of words.old.text.now) }
 {
-    let word = words.next().ok_or(LineError::Missing)?;
-    place_in(names, word).ok_or(LineError::NoChoice)
+    let addr = number_after(words, 16, 0xFFFF, LineError::NoHexadecimal)?;
+    Ok(addr as u16)
 }
 
-// The number of a word that stands for one, by the word's place.
-fn value_number(place: usize) -> u32
-    ensures { result ≡ value_number place }
+pub(crate) fn byte_after(words: &mut Words<'_>) -> Result<u8, LineError>
+    ensures { read (words_of words.new.text.now) result ≡ byte_after (words_of words.old.text.now) }
 {
-    match place {
-        1 | 2 => 1,
-        3 => 2,
-        4 => 3,
-        5 => NONE,
-        _ => 0,
-    }
+    let byte = number_after(words, 16, 0xFF, LineError::NoHexadecimal)?;
+    Ok(byte as u8)
+}
+
+pub(crate) fn hexadecimal_after(words: &mut Words<'_>) -> Result<u32, LineError>
+    ensures { read (words_of words.new.text.now) result ≡ hexadecimal_after (words_of words.old.text.now) }
+{
+    number_after(words, 16, u32::MAX, LineError::NoHexadecimal)
+}
+
+pub(crate) fn decimal_after(words: &mut Words<'_>) -> Result<u32, LineError>
+    ensures { read (words_of words.new.text.now) result ≡ decimal_after (words_of words.old.text.now) }
+{
+    number_after(words, 10, u32::MAX, LineError::NoDecimal)
+}
+
+// A mirroring, by its number. A number of none is too large.
+pub(crate) fn mirroring_after(words: &mut Words<'_>) -> Result<Mirroring, LineError>
+    ensures { read (words_of words.new.text.now) result ≡ mirroring_after (words_of words.old.text.now) }
+{
+    let number = number_after(words, 10, 0xFF, LineError::NoDecimal)?;
+    Mirroring::try_from(number as u8).map_err(|_| LineError::TooLarge)
+}
+
+// What a name stands for; nothing where it is none of the table.
+pub(crate) fn named<T: Copy>(table: &[(&[u8], T)], word: &[u8]) -> Option<T>
+    ensures { result ≡ named (map (λ entry. (entry.0.now, entry.1)) table.now) word.now }
+{
+    table
+        .iter()
+        .find(|(name, _)| same_name(name, word))
+        .map(|(_, value)| *value)
+}
+
+// One of the names, as what it stands for.
+#[tactic(auto, unfolding(crate::specs::Readings::named_after))]
+pub fn named_after<T: Copy>(words: &mut Words<'_>, table: &[(&[u8], T)]) -> Result<T, LineError>
+    ensures { read (words_of words.new.text.now) result ≡ named_after (map (λ entry. (entry.0.now, entry.1)) table.now) (words_of words.old.text.now) }
+{
+    let word = words.next().ok_or(LineError::Missing)?;
+    named(table, word).ok_or(LineError::NoChoice)
 }
 
 // A value: a word that stands for a number, or a decimal number.
@@ -75,8 +118,8 @@ pub fn value_after(words: &mut Words<'_>) -> Result<u32, LineError>
     ensures { read (words_of words.new.text.now) result ≡ value_after (words_of words.old.text.now) }
 {
     let word = words.next().ok_or(LineError::Missing)?;
-    match place_in(b"no yes silent held playing none", word) {
-        Some(place) => Ok(value_number(place)),
+    match named(&NUMBERS, word) {
+        Some(number) => Ok(number),
         None => marked(word, 10, u32::MAX).map_err(|error| fault(error, LineError::NoDecimal)),
     }
 }

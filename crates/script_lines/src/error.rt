@@ -1,4 +1,7 @@
 // What can be wrong with a line.
+ghost use Rattle.std.specs.Prelude.{Some};
+ghost use Rattle.script_lines.specs.Errors.{error_text};
+
 use std::fmt;
 use std::fmt::Display;
 
@@ -14,6 +17,8 @@ pub enum LineError {
 }
 
 impl Display for LineError {
+    ghost output = { λ error. Some (error_text error) };
+
     fn fmt<W: fmt::Write>(&self, f: &mut fmt::Formatter<W>) -> fmt::Result {
         f.write_str(match self {
             LineError::UnknownLine => "no such line",

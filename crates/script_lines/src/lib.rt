@@ -8,4 +8,4 @@ pub mod names;
 pub mod values;
 
 pub use error::LineError;
-pub use line::{Line, parse};
+pub use line::{CallLine, Line, parse};

@@ -1,21 +1,18 @@
-// A line of a script: its name by its place in a list, and its arguments by the form that the name has.
-ghost use Rattle.std.specs.Prelude.{◌≡◌, ◌<◌, ◌^◌, length, slice_get, unwrap_or};
+// A line of a script: its name, and the arguments that follow the name.
+ghost use Rattle.std.specs.Prelude.{◌≡◌, Some};
 ghost use Rattle.text_words.specs.Names.{words_of};
-ghost use Rattle.script_lines.specs.Readings.{name_after, read};
-ghost use Rattle.script_lines.specs.Lines.{argument_by, arguments_of, creation_of, is_comment, layout_s, letter_behind, letter_in, line_saying, line_read, name_at, place_of};
+ghost use Rattle.script_lines.specs.Readings.{read};
+ghost use Rattle.script_lines.specs.Lines.{access_after, call_behind, call_letter, creation_after, is_comment, layout_after, layout_s, line_behind, line_read, name_of, reset_after, revision_after, setting_after};
 
-use crate::arguments::{name_after, number_after, value_after};
+use crate::arguments::{address_after, byte_after, decimal_after, hexadecimal_after, mirroring_after, named, named_after, value_after};
 use crate::error::LineError;
 use crate::names::{CallName, NAMES, Name};
-use crate::values::{Buffer, VALUES, Value};
-use text_words::names::{Words, byte_of_nth, place_in};
-
-// A value, and the number of its place where there are several.
-#[derive(Clone, Copy, PartialEq, Eq, Debug)]
-pub struct Place {
-    pub value: Value,
-    pub at: u32,
-}
+use crate::values::{Buffer, Value, buffer_after, named_value};
+use memory_layout::MemoryLayout;
+use std::fmt;
+use text_words::names::Words;
+use vrc6_banking::banking::Revision;
+use vrc6_slots::Mirroring;
 
 // What the buffers hold when a board is created: zeros, bytes by a seed, or what they held.
 #[derive(Clone, Copy, PartialEq, Eq, Debug)]
@@ -25,17 +22,47 @@ pub enum Bytes {
     Kept,
 }
 
-// The board that a line creates: its layout, in bytes, and the numbers of its mirroring and its revision.
+// The board that a line creates.
 #[derive(Clone, Copy, PartialEq, Eq, Debug)]
 pub struct Creation {
-    pub prg: u32,
-    pub chr: u32,
-    pub writable: bool,
-    pub ram: u32,
-    pub ciram: u32,
-    pub mirroring: u32,
-    pub revision: u32,
+    pub layout: MemoryLayout,
+    pub mirroring: Mirroring,
+    pub revision: Revision,
     pub bytes: Bytes,
+}
+
+// A call with its arguments, as a line writes it.
+#[derive(Clone, Copy, PartialEq, Eq, Debug)]
+pub enum CallLine {
+    Read(u16),
+    Write(u16, u8),
+    PictureRead(u16),
+    PictureWrite(u16, u8),
+    View(u16),
+    SoftReset,
+    HardReset,
+    Level,
+    Forecast,
+    ReadBus(u16, u8),
+}
+
+// The letter of its answer.
+impl fmt::Display for CallLine {
+    ghost output = { λ call. Some (call_letter call) };
+
+    fn fmt<W: fmt::Write>(&self, f: &mut fmt::Formatter<W>) -> fmt::Result {
+        f.write_str(match self {
+            CallLine::Read(..) => "R",
+            CallLine::Write(..) => "W",
+            CallLine::PictureRead(..) => "P",
+            CallLine::PictureWrite(..) => "Q",
+            CallLine::View(..) => "V",
+            CallLine::SoftReset | CallLine::HardReset => "Z",
+            CallLine::Level => "L",
+            CallLine::Forecast => "F",
+            CallLine::ReadBus(..) => "B",
+        })
+    }
 }
 
 #[derive(Clone, Copy, PartialEq, Eq, Debug)]
@@ -46,177 +73,157 @@ pub enum Line {
     // Boards that are created from here on have open bus, or not.
     OpenBus(bool),
     Create(Creation),
-    // A call with its first two numbers, 0 where it has fewer.
-    Call(CallName, u32, u32),
+    Call(CallLine),
     Clock(u32),
     Registers,
     Buffers,
     Dump,
     Lend(Buffer, u32),
-    Poke(Place, u32),
-    Expect(Place, u32),
+    Poke(Value, u32),
+    Expect(Value, u32),
 }
 
-// One of the names, by its place.
-fn choice(words: &mut Words<'_>, names: &[u8]) -> Result<u32, LineError>
-    requires { length names.now < 2 ^ 32 }
-    ensures { read (words_of words.new.text.now) result ≡ name_after names.now (words_of words.old.text.now) }
+const ACCESSES: [(&[u8], bool); 2] = [(b"r", false), (b"w", true)];
+
+const SETTINGS: [(&[u8], bool); 2] = [(b"no", false), (b"yes", true)];
+
+const REVISIONS: [(&[u8], Revision); 2] = [(b"A", Revision::A), (b"B", Revision::B)];
+
+const RESETS: [(&[u8], CallLine); 4] = [
+    (b"s", CallLine::SoftReset),
+    (b"h", CallLine::HardReset),
+    (b"soft", CallLine::SoftReset),
+    (b"hard", CallLine::HardReset),
+];
+
+// Whether CHR can be written.
+fn access_after(words: &mut Words<'_>) -> Result<bool, LineError>
+    ensures { read (words_of words.new.text.now) result ≡ access_after (words_of words.old.text.now) }
 {
-    Ok(name_after(words, names)? as u32)
+    named_after(words, &ACCESSES)
 }
 
-// The argument of a letter. The forms of lines are words of such letters, so an enum of them would be a second table of the same.
-#[tactic(auto, unfolding(crate::specs::Lines::argument_by))]
-fn argument(words: &mut Words<'_>, letter: u8) -> Result<u32, LineError>
-    ensures { read (words_of words.new.text.now) result ≡ argument_by letter (words_of words.old.text.now) }
+fn setting_after(words: &mut Words<'_>) -> Result<bool, LineError>
+    ensures { read (words_of words.new.text.now) result ≡ setting_after (words_of words.old.text.now) }
 {
-    match letter {
-        b'a' => number_after(words, 16, 0xFFFF, LineError::NoHexadecimal),
-        b'b' => number_after(words, 16, 0xFF, LineError::NoHexadecimal),
-        b'x' => number_after(words, 16, u32::MAX, LineError::NoHexadecimal),
-        b'd' => number_after(words, 10, u32::MAX, LineError::NoDecimal),
-        b'm' => number_after(words, 10, 4, LineError::NoDecimal),
-        b'w' => choice(words, b"r w"),
-        b'v' => choice(words, b"A B"),
-        b'k' => choice(words, b"s h soft hard"),
-        b'l' => choice(words, b"fixed changing"),
-        b'y' => choice(words, b"no yes"),
-        b'n' => choice(
-            words,
-            b"entry picture-entry chr nametable fixed changing layout pulse1 pulse2 saw mode prg-16k prg-8k mirroring revision reload counter prescaler pending enabled after-acknowledge cycle halt sum open-bus view-byte view-length refusal byte ticks first-tick last-tick interrupt sounding level level-bits forecast untouched kept",
-        ),
-        b'f' => choice(words, b"prg chr writable ram ciram"),
-        b'c' => choice(
-            words,
-            b"enabled volume duty ignore-duty frequency timer step shift accumulator rate",
-        ),
-        b'q' => value_after(words),
-        // The rest of the line, whatever it is.
-        b't' => {
-            words.text = b"";
-            Ok(0)
-        }
-        _ => Ok(0),
-    }
+    named_after(words, &SETTINGS)
 }
 
-// A letter of one of the forms; `-` behind its end, where there is no argument.
-fn letter_in(forms: &[u8], place: usize, i: usize) -> u8
-    ensures { result ≡ letter_in forms.now place i }
+fn revision_after(words: &mut Words<'_>) -> Result<Revision, LineError>
+    ensures { read (words_of words.new.text.now) result ≡ revision_after (words_of words.old.text.now) }
 {
-    byte_of_nth(forms, place, i).unwrap_or(b'-')
+    named_after(words, &REVISIONS)
 }
 
-// The letter of the argument behind those so far: behind the name of a value those of the value follow.
-#[tactic(auto, unfolding(crate::specs::Lines::letter_behind))]
-fn letter_behind(place: usize, so_far: &[u32]) -> u8
-    ensures { result ≡ letter_behind place so_far.now }
+fn reset_after(words: &mut Words<'_>) -> Result<CallLine, LineError>
+    ensures { read (words_of words.new.text.now) result ≡ reset_after (words_of words.old.text.now) }
 {
-    let forms =
-        b"a a ab ab a a ab ab a a k k - - - - ab ab d d ddwddmvx mv ddwddmv - - - ld n n y y t";
-    let Some((value, more)) = so_far.split_first() else {
-        return letter_in(forms, place, 0);
-    };
-    if letter_in(forms, place, 0) == b'n' {
-        return letter_in(
-            b"aq aq dq dq dq dq fq cq cq cq -q -q -q -q -q -q -q -q -q -q -q -q -q -q -q dq -q -q -q -q -q -q -q -q -q -q -q -q -q",
-            *value as usize,
-            more.len(),
-        );
-    }
-    letter_in(forms, place, so_far.len())
+    named_after(words, &RESETS)
 }
 
-// The arguments of the line whose name has this place, which are all of its further words.
-fn arguments_of(words: &mut Words<'_>, place: usize) -> Result<[u32; 8], LineError>
-    ensures { result ≡ arguments_of place (words_of words.old.text.now) }
+#[tactic(auto, unfolding(crate::specs::Lines::layout_after))]
+fn layout_after(words: &mut Words<'_>) -> Result<MemoryLayout, LineError>
+    ensures { read (words_of words.new.text.now) result ≡ layout_after (words_of words.old.text.now) }
 {
-    let mut arguments = [0; 8];
-    for i in 0..8 {
-        arguments[i] = argument(words, letter_behind(place, &arguments[..i]))?;
-    }
-    match words.next() {
-        None => Ok(arguments),
-        Some(_) => Err(LineError::TooMany),
-    }
+    Ok(MemoryLayout {
+        prg_rom: decimal_after(words)?,
+        chr: decimal_after(words)?,
+        chr_writable: access_after(words)?,
+        prg_ram: decimal_after(words)?,
+        ciram: decimal_after(words)?,
+    })
 }
 
-fn creation_of(arguments: [u32; 8], bytes: Bytes) -> Creation
-    ensures { result ≡ creation_of arguments bytes }
+// A board over the buffers as they are.
+#[tactic(auto, unfolding(crate::specs::Lines::creation_after))]
+fn creation_after(words: &mut Words<'_>) -> Result<Creation, LineError>
+    ensures { read (words_of words.new.text.now) result ≡ creation_after (words_of words.old.text.now) }
 {
-    let [prg, chr, writable, ram, ciram, mirroring, revision, _] = arguments;
-    Creation {
-        prg,
-        chr,
-        writable: writable == 1,
-        ram,
-        ciram,
-        mirroring,
-        revision,
-        bytes,
-    }
+    Ok(Creation {
+        layout: layout_after(words)?,
+        mirroring: mirroring_after(words)?,
+        revision: revision_after(words)?,
+        bytes: Bytes::Kept,
+    })
 }
 
 // Layout S over buffers of zeros.
-fn layout_s(mirroring: u32, revision: u32) -> Creation
+fn layout_s(mirroring: Mirroring, revision: Revision) -> Creation
     ensures { result ≡ layout_s mirroring revision }
 {
     Creation {
-        prg: 131072,
-        chr: 131072,
-        writable: false,
-        ram: 8192,
-        ciram: 2048,
+        layout: MemoryLayout {
+            prg_rom: 131072,
+            chr: 131072,
+            chr_writable: false,
+            prg_ram: 8192,
+            ciram: 2048,
+        },
         mirroring,
         revision,
         bytes: Bytes::Zeros,
     }
 }
 
-// What stands at a place of a table, or another behind its end.
-fn entry<T: Copy>(table: &[T], place: usize, other: T) -> T
-    ensures { result ≡ unwrap_or (slice_get table.now place) other }
+// The call of a name, with its arguments.
+#[tactic(auto, unfolding(crate::specs::Lines::call_behind))]
+fn call_behind(name: CallName, words: &mut Words<'_>) -> Result<CallLine, LineError>
+    ensures { read (words_of words.new.text.now) result ≡ call_behind name (words_of words.old.text.now) }
 {
-    table.get(place).copied().unwrap_or(other)
-}
-
-// A value by the place of its name.
-fn place_of(name: u32, at: u32) -> Place
-    ensures { result ≡ place_of name at }
-{
-    Place {
-        value: entry(&VALUES, name as usize, Value::Kept),
-        at,
-    }
-}
-
-// What a line's name stands for, by its place.
-fn name_at(place: usize) -> Name
-    ensures { result ≡ name_at place }
-{
-    entry(&NAMES, place, Name::Heading)
-}
-
-fn line_saying(name: Name, arguments: [u32; 8]) -> Line
-    ensures { result ≡ line_saying name arguments }
-{
-    let [a, b, c, _, _, _, _, seed] = arguments;
     match name {
-        Name::Call(call) => Line::Call(call, a, b),
-        Name::Clock => Line::Clock(a),
-        Name::Filled => Line::Create(creation_of(arguments, Bytes::Filled(seed))),
-        Name::LayoutS => Line::Create(layout_s(a, b)),
-        Name::Create => Line::Create(creation_of(arguments, Bytes::Kept)),
-        Name::Registers => Line::Registers,
-        Name::Buffers => Line::Buffers,
-        Name::Dump => Line::Dump,
-        Name::Lend if a == 0 => Line::Lend(Buffer::Fixed, b),
-        Name::Lend => Line::Lend(Buffer::Changing, b),
-        Name::Poke => Line::Poke(place_of(a, b), c),
-        Name::Expect => Line::Expect(place_of(a, b), c),
-        Name::OpenBus => Line::OpenBus(a == 1),
-        Name::Heading => Line::Heading,
+        CallName::Read => Ok(CallLine::Read(address_after(words)?)),
+        CallName::Write => Ok(CallLine::Write(address_after(words)?, byte_after(words)?)),
+        CallName::PictureRead => Ok(CallLine::PictureRead(address_after(words)?)),
+        CallName::PictureWrite => {
+            Ok(CallLine::PictureWrite(address_after(words)?, byte_after(words)?))
+        }
+        CallName::View => Ok(CallLine::View(address_after(words)?)),
+        CallName::Reset => reset_after(words),
+        CallName::Level => Ok(CallLine::Level),
+        CallName::Forecast => Ok(CallLine::Forecast),
+        CallName::ReadBus => Ok(CallLine::ReadBus(address_after(words)?, byte_after(words)?)),
     }
+}
+
+// The line of a name, with its arguments.
+#[tactic(auto, unfolding(crate::specs::Lines::line_behind))]
+fn line_behind(name: Name, words: &mut Words<'_>) -> Result<Line, LineError>
+    ensures { read (words_of words.new.text.now) result ≡ line_behind name (words_of words.old.text.now) }
+{
+    match name {
+        Name::Call(call) => Ok(Line::Call(call_behind(call, words)?)),
+        Name::Clock => Ok(Line::Clock(decimal_after(words)?)),
+        Name::Filled => {
+            let creation = creation_after(words)?;
+            let bytes = Bytes::Filled(hexadecimal_after(words)?);
+            Ok(Line::Create(Creation { bytes, ..creation }))
+        }
+        Name::LayoutS => {
+            let mirroring = mirroring_after(words)?;
+            Ok(Line::Create(layout_s(mirroring, revision_after(words)?)))
+        }
+        Name::Create => Ok(Line::Create(creation_after(words)?)),
+        Name::Registers => Ok(Line::Registers),
+        Name::Buffers => Ok(Line::Buffers),
+        Name::Dump => Ok(Line::Dump),
+        Name::Lend => Ok(Line::Lend(buffer_after(words)?, decimal_after(words)?)),
+        Name::Poke => Ok(Line::Poke(named_value(words)?, value_after(words)?)),
+        Name::Expect => Ok(Line::Expect(named_value(words)?, value_after(words)?)),
+        Name::OpenBus => Ok(Line::OpenBus(setting_after(words)?)),
+        // The rest of the line, whatever it is.
+        Name::Heading => {
+            words.text = b"";
+            Ok(Line::Heading)
+        }
+    }
+}
+
+// What a line's first word names.
+#[tactic(auto, unfolding(crate::specs::Lines::name_of))]
+fn name_of(word: &[u8]) -> Option<Name>
+    ensures { result ≡ name_of word.now }
+{
+    named(&NAMES, word)
 }
 
 // Whether a line is a comment, by its first word.
@@ -237,11 +244,10 @@ pub fn parse(text: &[u8]) -> Result<Line, LineError>
     if is_comment(word) {
         return Ok(Line::Nothing);
     }
-    let place = place_in(
-        b"R read W write P picture-read Q picture-write V view Z reset L level F forecast B read-bus C clock N S create G H D lend poke expect O open-bus =",
-        word,
-    )
-    .ok_or(LineError::UnknownLine)?;
-    let arguments = arguments_of(&mut words, place)?;
-    Ok(line_saying(name_at(place), arguments))
+    let name = name_of(word).ok_or(LineError::UnknownLine)?;
+    let line = line_behind(name, &mut words)?;
+    match words.next() {
+        None => Ok(line),
+        Some(_) => Err(LineError::TooMany),
+    }
 }

@@ -1,4 +1,12 @@
-// The values that a line asks for or sets.
+// The values that a line asks for or sets, each by its name, and by a place where there are several.
+ghost use Rattle.std.specs.Prelude.{◌≡◌};
+ghost use Rattle.text_words.specs.Names.{words_of};
+ghost use Rattle.script_lines.specs.Readings.{read};
+ghost use Rattle.script_lines.specs.Values.{buffer_after, channel_field_after, layout_field_after, named_value, value_behind, value_name_after};
+
+use crate::arguments::{address_after, decimal_after, named_after};
+use crate::error::LineError;
+use text_words::names::Words;
 
 #[derive(Clone, Copy, PartialEq, Eq, Debug)]
 pub enum Buffer {
@@ -6,16 +14,69 @@ pub enum Buffer {
     Changing,
 }
 
+const BUFFERS: [(&[u8], Buffer); 2] = [(b"fixed", Buffer::Fixed), (b"changing", Buffer::Changing)];
+
 #[derive(Clone, Copy, PartialEq, Eq, Debug)]
-pub enum BoardValue {
-    Entry,
-    PictureEntry,
+pub enum LayoutField {
+    PrgRom,
     Chr,
-    Nametable,
-    Layout,
+    ChrWritable,
+    PrgRam,
+    Ciram,
+}
+
+const LAYOUT_FIELDS: [(&[u8], LayoutField); 5] = [
+    (b"prg", LayoutField::PrgRom),
+    (b"chr", LayoutField::Chr),
+    (b"writable", LayoutField::ChrWritable),
+    (b"ram", LayoutField::PrgRam),
+    (b"ciram", LayoutField::Ciram),
+];
+
+#[derive(Clone, Copy, PartialEq, Eq, Debug)]
+pub enum ChannelName {
     Pulse1,
     Pulse2,
     Saw,
+}
+
+// Those of pulse and saw.
+#[derive(Clone, Copy, PartialEq, Eq, Debug)]
+pub enum ChannelField {
+    Enabled,
+    Volume,
+    Duty,
+    IgnoreDuty,
+    Frequency,
+    Timer,
+    Step,
+    Shift,
+    Accumulator,
+    Rate,
+}
+
+const CHANNEL_FIELDS: [(&[u8], ChannelField); 10] = [
+    (b"enabled", ChannelField::Enabled),
+    (b"volume", ChannelField::Volume),
+    (b"duty", ChannelField::Duty),
+    (b"ignore-duty", ChannelField::IgnoreDuty),
+    (b"frequency", ChannelField::Frequency),
+    (b"timer", ChannelField::Timer),
+    (b"step", ChannelField::Step),
+    (b"shift", ChannelField::Shift),
+    (b"accumulator", ChannelField::Accumulator),
+    (b"rate", ChannelField::Rate),
+];
+
+// Entries by an address that they serve, registers by their number.
+#[derive(Clone, Copy, PartialEq, Eq, Debug)]
+pub enum BoardValue {
+    Entry(u16),
+    PictureEntry(u16),
+    Chr(u32),
+    Nametable(u32),
+    Layout(LayoutField),
+    Channel(ChannelName, ChannelField),
     Mode,
     Prg16,
     Prg8,
@@ -49,55 +110,131 @@ pub enum AnswerValue {
     Forecast,
 }
 
+// Bytes by their offset.
 #[derive(Clone, Copy, PartialEq, Eq, Debug)]
 pub enum Value {
     Board(BoardValue),
-    Byte(Buffer),
+    Byte(Buffer, u32),
     Answer(AnswerValue),
-    ViewByte,
+    ViewByte(u32),
     Untouched,
     Kept,
 }
 
-// What the names of values stand for, in their order.
-pub const VALUES: [Value; 39] = [
-    Value::Board(BoardValue::Entry),
-    Value::Board(BoardValue::PictureEntry),
-    Value::Board(BoardValue::Chr),
-    Value::Board(BoardValue::Nametable),
-    Value::Byte(Buffer::Fixed),
-    Value::Byte(Buffer::Changing),
-    Value::Board(BoardValue::Layout),
-    Value::Board(BoardValue::Pulse1),
-    Value::Board(BoardValue::Pulse2),
-    Value::Board(BoardValue::Saw),
-    Value::Board(BoardValue::Mode),
-    Value::Board(BoardValue::Prg16),
-    Value::Board(BoardValue::Prg8),
-    Value::Board(BoardValue::Mirroring),
-    Value::Board(BoardValue::Revision),
-    Value::Board(BoardValue::Reload),
-    Value::Board(BoardValue::Counter),
-    Value::Board(BoardValue::Prescaler),
-    Value::Board(BoardValue::Pending),
-    Value::Board(BoardValue::Enabled),
-    Value::Board(BoardValue::AfterAcknowledge),
-    Value::Board(BoardValue::Cycle),
-    Value::Board(BoardValue::Halt),
-    Value::Board(BoardValue::Sum),
-    Value::Board(BoardValue::OpenBus),
-    Value::ViewByte,
-    Value::Answer(AnswerValue::ViewLength),
-    Value::Answer(AnswerValue::Refusal),
-    Value::Answer(AnswerValue::Byte),
-    Value::Answer(AnswerValue::Ticks),
-    Value::Answer(AnswerValue::FirstTick),
-    Value::Answer(AnswerValue::LastTick),
-    Value::Answer(AnswerValue::Interrupt),
-    Value::Answer(AnswerValue::Sounding),
-    Value::Answer(AnswerValue::Level),
-    Value::Answer(AnswerValue::LevelBits),
-    Value::Answer(AnswerValue::Forecast),
-    Value::Untouched,
-    Value::Kept,
+// A name that a place follows, or one of a value alone.
+#[derive(Clone, Copy, PartialEq, Eq, Debug)]
+pub enum ValueName {
+    Entry,
+    PictureEntry,
+    Chr,
+    Nametable,
+    Byte(Buffer),
+    Layout,
+    Channel(ChannelName),
+    ViewByte,
+    OfBoard(BoardValue),
+    OfAnswer(AnswerValue),
+    Untouched,
+    Kept,
+}
+
+pub const VALUES: [(&[u8], ValueName); 39] = [
+    (b"entry", ValueName::Entry),
+    (b"picture-entry", ValueName::PictureEntry),
+    (b"chr", ValueName::Chr),
+    (b"nametable", ValueName::Nametable),
+    (b"fixed", ValueName::Byte(Buffer::Fixed)),
+    (b"changing", ValueName::Byte(Buffer::Changing)),
+    (b"layout", ValueName::Layout),
+    (b"pulse1", ValueName::Channel(ChannelName::Pulse1)),
+    (b"pulse2", ValueName::Channel(ChannelName::Pulse2)),
+    (b"saw", ValueName::Channel(ChannelName::Saw)),
+    (b"mode", ValueName::OfBoard(BoardValue::Mode)),
+    (b"prg-16k", ValueName::OfBoard(BoardValue::Prg16)),
+    (b"prg-8k", ValueName::OfBoard(BoardValue::Prg8)),
+    (b"mirroring", ValueName::OfBoard(BoardValue::Mirroring)),
+    (b"revision", ValueName::OfBoard(BoardValue::Revision)),
+    (b"reload", ValueName::OfBoard(BoardValue::Reload)),
+    (b"counter", ValueName::OfBoard(BoardValue::Counter)),
+    (b"prescaler", ValueName::OfBoard(BoardValue::Prescaler)),
+    (b"pending", ValueName::OfBoard(BoardValue::Pending)),
+    (b"enabled", ValueName::OfBoard(BoardValue::Enabled)),
+    (b"after-acknowledge", ValueName::OfBoard(BoardValue::AfterAcknowledge)),
+    (b"cycle", ValueName::OfBoard(BoardValue::Cycle)),
+    (b"halt", ValueName::OfBoard(BoardValue::Halt)),
+    (b"sum", ValueName::OfBoard(BoardValue::Sum)),
+    (b"open-bus", ValueName::OfBoard(BoardValue::OpenBus)),
+    (b"view-byte", ValueName::ViewByte),
+    (b"view-length", ValueName::OfAnswer(AnswerValue::ViewLength)),
+    (b"refusal", ValueName::OfAnswer(AnswerValue::Refusal)),
+    (b"byte", ValueName::OfAnswer(AnswerValue::Byte)),
+    (b"ticks", ValueName::OfAnswer(AnswerValue::Ticks)),
+    (b"first-tick", ValueName::OfAnswer(AnswerValue::FirstTick)),
+    (b"last-tick", ValueName::OfAnswer(AnswerValue::LastTick)),
+    (b"interrupt", ValueName::OfAnswer(AnswerValue::Interrupt)),
+    (b"sounding", ValueName::OfAnswer(AnswerValue::Sounding)),
+    (b"level", ValueName::OfAnswer(AnswerValue::Level)),
+    (b"level-bits", ValueName::OfAnswer(AnswerValue::LevelBits)),
+    (b"forecast", ValueName::OfAnswer(AnswerValue::Forecast)),
+    (b"untouched", ValueName::Untouched),
+    (b"kept", ValueName::Kept),
 ];
+
+pub(crate) fn buffer_after(words: &mut Words<'_>) -> Result<Buffer, LineError>
+    ensures { read (words_of words.new.text.now) result ≡ buffer_after (words_of words.old.text.now) }
+{
+    named_after(words, &BUFFERS)
+}
+
+fn layout_field_after(words: &mut Words<'_>) -> Result<LayoutField, LineError>
+    ensures { read (words_of words.new.text.now) result ≡ layout_field_after (words_of words.old.text.now) }
+{
+    named_after(words, &LAYOUT_FIELDS)
+}
+
+fn channel_field_after(words: &mut Words<'_>) -> Result<ChannelField, LineError>
+    ensures { read (words_of words.new.text.now) result ≡ channel_field_after (words_of words.old.text.now) }
+{
+    named_after(words, &CHANNEL_FIELDS)
+}
+
+fn value_name_after(words: &mut Words<'_>) -> Result<ValueName, LineError>
+    ensures { read (words_of words.new.text.now) result ≡ value_name_after (words_of words.old.text.now) }
+{
+    named_after(words, &VALUES)
+}
+
+// The value of a name, with its place where there are several.
+#[tactic(auto, unfolding(crate::specs::Values::value_behind))]
+fn value_behind(name: ValueName, words: &mut Words<'_>) -> Result<Value, LineError>
+    ensures { read (words_of words.new.text.now) result ≡ value_behind name (words_of words.old.text.now) }
+{
+    match name {
+        ValueName::Entry => Ok(Value::Board(BoardValue::Entry(address_after(words)?))),
+        ValueName::PictureEntry => {
+            Ok(Value::Board(BoardValue::PictureEntry(address_after(words)?)))
+        }
+        ValueName::Chr => Ok(Value::Board(BoardValue::Chr(decimal_after(words)?))),
+        ValueName::Nametable => Ok(Value::Board(BoardValue::Nametable(decimal_after(words)?))),
+        ValueName::Byte(buffer) => Ok(Value::Byte(buffer, decimal_after(words)?)),
+        ValueName::Layout => Ok(Value::Board(BoardValue::Layout(layout_field_after(words)?))),
+        ValueName::Channel(channel) => {
+            let field = channel_field_after(words)?;
+            Ok(Value::Board(BoardValue::Channel(channel, field)))
+        }
+        ValueName::ViewByte => Ok(Value::ViewByte(decimal_after(words)?)),
+        ValueName::OfBoard(value) => Ok(Value::Board(value)),
+        ValueName::OfAnswer(value) => Ok(Value::Answer(value)),
+        ValueName::Untouched => Ok(Value::Untouched),
+        ValueName::Kept => Ok(Value::Kept),
+    }
+}
+
+// A value by its name.
+#[tactic(auto, unfolding(crate::specs::Values::named_value))]
+pub(crate) fn named_value(words: &mut Words<'_>) -> Result<Value, LineError>
+    ensures { read (words_of words.new.text.now) result ≡ named_value (words_of words.old.text.now) }
+{
+    let name = value_name_after(words)?;
+    value_behind(name, words)
+}
