@@ -15,9 +15,8 @@ pub fn fill_byte(offset: u32, seed: u32) -> u8
 pub fn fill(part: &mut [u8], first: u32, seed: u32)
     ensures { part.new ≡ filled (length part.old) first seed }
 {
-    let mut at = first;
-    for byte in part.iter_mut() {
+    for (i, byte) in part.iter_mut().enumerate() {
+        let at = first.wrapping_add((i % 0x1_0000_0000) as u32);
         *byte = fill_byte(at, seed);
-        at = at.wrapping_add(1);
     }
 }

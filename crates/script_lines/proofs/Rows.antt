@@ -14,6 +14,7 @@ examples =
       write = refl;
       hard = refl;
       soft = refl;
+      registers = refl;
       read_bus = refl;
       clocks = refl;
       create = refl;

@@ -1,5 +1,5 @@
 -- Examples of what the definitions give. Assumes nothing.
-use Rattle.std.specs.Prelude.{◌≡◌, true, Ok, Err}
+use Rattle.std.specs.Prelude.{◌≡◌, true, Some, None, Ok, Err}
 use Rattle.text_words.specs.Names.{codes}
 use Rattle.vrc6_banking.specs.declared.banking.Revision.TheVariants.{A, B}
 use Rattle.vrc6_slots.specs.declared.Mirroring.TheVariants.{Horizontal, FourScreen}
@@ -7,6 +7,7 @@ use Rattle.script_lines.specs.declared.error.LineError.TheVariants as Fault
 use Rattle.script_lines.specs.declared.line.Bytes.TheVariants as Bytes
 use Rattle.script_lines.specs.declared.line.CallLine.TheVariants as CallLine
 use Rattle.script_lines.specs.declared.line.Line.TheVariants as Line
+use Rattle.script_lines.specs.declared.names.Shown.TheVariants as Shown
 use Rattle.script_lines.specs.declared.values.AnswerValue.TheVariants as AnswerValue
 use Rattle.script_lines.specs.declared.values.BoardValue.TheVariants as BoardValue
 use Rattle.script_lines.specs.declared.values.Buffer.TheVariants as Buffer
@@ -20,37 +21,39 @@ use Rattle.script_lines.specs.Readings.{largest}
 pub record LineExamples : Type 0 where
   -- lines and their arguments
   -- an address
-  pub read : line_read (codes "R 8000") ≡ Ok (Line.Call (CallLine.Read 32_768))
+  pub read : line_read (codes "R 8000") ≡ Ok (Some (Line.Call (CallLine.Read 32_768)))
   -- a call's word, further blanks, a capital, a marked number
-  pub write : line_read (codes " Write b003  $A0") ≡ Ok (Line.Call (CallLine.Write 45_059 160))
-  pub hard : line_read (codes "Z h") ≡ Ok (Line.Call CallLine.HardReset)
-  pub soft : line_read (codes "reset soft") ≡ Ok (Line.Call CallLine.SoftReset)
+  pub write : line_read (codes " Write b003  $A0") ≡ Ok (Some (Line.Call (CallLine.Write 45_059 160)))
+  pub hard : line_read (codes "Z h") ≡ Ok (Some (Line.Call CallLine.HardReset))
+  pub soft : line_read (codes "reset soft") ≡ Ok (Some (Line.Call CallLine.SoftReset))
+  pub registers : line_read (codes "G") ≡ Ok (Some (Line.Show Shown.Registers))
   -- an address and a bus byte
-  pub read_bus : line_read (codes "B 5fff a0") ≡ Ok (Line.Call (CallLine.ReadBus 24_575 160))
-  pub clocks : line_read (codes "C 0228") ≡ Ok (Line.Clock 228)
+  pub read_bus : line_read (codes "B 5fff a0") ≡ Ok (Some (Line.Call (CallLine.ReadBus 24_575 160)))
+  pub clocks : line_read (codes "C 0228") ≡ Ok (Some (Line.Clock 228))
   pub create :
       line_read (codes "N 0 1 w 2 3 4 B ff")
       ≡ Ok
-        (Line.Create
-        (record {
-          layout = record { prg_rom = 0; chr = 1; chr_writable = true; prg_ram = 2; ciram = 3 };
-          mirroring = FourScreen;
-          revision = B;
-          bytes = Bytes.Filled 255;
-        }))
-  pub layout_s : line_read (codes "S 1 A") ≡ Ok (Line.Create (layout_s Horizontal A))
-  pub open_bus : line_read (codes "open-bus yes") ≡ Ok (Line.OpenBus true)
-  pub lend : line_read (codes "lend changing 2047") ≡ Ok (Line.Lend Buffer.Changing 2_047)
-  pub poke_sum : line_read (codes "poke sum $42780000") ≡ Ok (Line.Poke (Value.Board BoardValue.Sum) 1_115_160_576)
-  pub poke_open_bus : line_read (codes "poke open-bus 1") ≡ Ok (Line.Poke (Value.Board BoardValue.OpenBus) 1)
-  pub expect_entry : line_read (codes "expect entry e000 123904") ≡ Ok (Line.Expect (Value.Board (BoardValue.Entry 57_344)) 123_904)
+      (Some
+      (Line.Create
+      (record {
+        layout = record { prg_rom = 0; chr = 1; chr_writable = true; prg_ram = 2; ciram = 3 };
+        mirroring = FourScreen;
+        revision = B;
+        bytes = Bytes.Filled 255;
+      })))
+  pub layout_s : line_read (codes "S 1 A") ≡ Ok (Some (Line.Create (layout_s Horizontal A)))
+  pub open_bus : line_read (codes "open-bus yes") ≡ Ok (Some (Line.OpenBus true))
+  pub lend : line_read (codes "lend changing 2047") ≡ Ok (Some (Line.Lend Buffer.Changing 2_047))
+  pub poke_sum : line_read (codes "poke sum $42780000") ≡ Ok (Some (Line.Poke (Value.Board BoardValue.Sum) 1_115_160_576))
+  pub poke_open_bus : line_read (codes "poke open-bus 1") ≡ Ok (Some (Line.Poke (Value.Board BoardValue.OpenBus) 1))
+  pub expect_entry : line_read (codes "expect entry e000 123904") ≡ Ok (Some (Line.Expect (Value.Board (BoardValue.Entry 57_344)) 123_904))
   pub expect_timer :
-      line_read (codes "expect pulse2 timer 1") ≡ Ok (Line.Expect (Value.Board (BoardValue.Channel ChannelName.Pulse2 ChannelField.Timer)) 1)
-  pub expect_none : line_read (codes "expect forecast none") ≡ Ok (Line.Expect (Value.Answer AnswerValue.Forecast) largest)
-  pub expect_held : line_read (codes "expect level held") ≡ Ok (Line.Expect (Value.Answer AnswerValue.Level) 2)
-  pub heading : line_read (codes "= any text") ≡ Ok Line.Heading
-  pub comment : line_read (codes "# R") ≡ Ok Line.Nothing
-  pub blank : line_read (codes "  ") ≡ Ok Line.Nothing
+      line_read (codes "expect pulse2 timer 1") ≡ Ok (Some (Line.Expect (Value.Board (BoardValue.Channel ChannelName.Pulse2 ChannelField.Timer)) 1))
+  pub expect_none : line_read (codes "expect forecast none") ≡ Ok (Some (Line.Expect (Value.Answer AnswerValue.Forecast) largest))
+  pub expect_held : line_read (codes "expect level held") ≡ Ok (Some (Line.Expect (Value.Answer AnswerValue.Level) 2))
+  pub heading : line_read (codes "= any text") ≡ Ok (Some Line.Heading)
+  pub comment : line_read (codes "# R") ≡ Ok None
+  pub blank : line_read (codes "  ") ≡ Ok None
   pub unknown : line_read (codes "RR 1") ≡ Err Fault.UnknownLine
   -- what is wrong with a line
   pub missing : line_read (codes "W 8000") ≡ Err Fault.Missing

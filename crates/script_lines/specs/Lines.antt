@@ -12,6 +12,7 @@ use Rattle.script_lines.specs.declared.line.Creation.{Creation}
 use Rattle.script_lines.specs.declared.line.Line.{Line}
 use Rattle.script_lines.specs.declared.names.CallName.{CallName}
 use Rattle.script_lines.specs.declared.names.Name.{Name}
+use Rattle.script_lines.specs.declared.names.Shown.{Shown}
 use Rattle.script_lines.specs.Readings.{Reader, Reading, address_after, byte_after, decimal_after, given, hexadecimal_after, mirroring_after, named, named_after, then, value_after}
 use Rattle.script_lines.specs.Values.{buffer_after, named_value}
 
@@ -42,9 +43,9 @@ line_names =
     (codes "N", Name.Filled) ∷
     (codes "S", Name.LayoutS) ∷
     (codes "create", Name.Create) ∷
-    (codes "G", Name.Registers) ∷
-    (codes "H", Name.Buffers) ∷
-    (codes "D", Name.Dump) ∷
+    (codes "G", Name.Show Shown.Registers) ∷
+    (codes "H", Name.Show Shown.Buffers) ∷
+    (codes "D", Name.Show Shown.Dump) ∷
     (codes "lend", Name.Lend) ∷
     (codes "poke", Name.Poke) ∷
     (codes "expect", Name.Expect) ∷
@@ -78,9 +79,11 @@ access_after = named_after ((codes "r", false) ∷ (codes "w", true) ∷ [])
 abbrev pub setting_after : Reader Bool
 setting_after = named_after ((codes "no", false) ∷ (codes "yes", true) ∷ [])
 
+-- a revision by its letter
 abbrev pub revision_after : Reader Revision
 revision_after = named_after ((codes "A", Revision.A) ∷ (codes "B", Revision.B) ∷ [])
 
+-- a reset by its kind
 abbrev pub reset_after : Reader CallLine
 reset_after =
     named_after
@@ -133,9 +136,7 @@ line_behind Name.Filled =
     then creation_after (λ c. then hexadecimal_after (λ seed. given (Line.Create (record c { bytes = Bytes.Filled seed }))))
 line_behind Name.LayoutS = then mirroring_after (λ m. then revision_after (λ r. given (Line.Create (layout_s m r))))
 line_behind Name.Create = then creation_after (λ c. given (Line.Create c))
-line_behind Name.Registers = given Line.Registers
-line_behind Name.Buffers = given Line.Buffers
-line_behind Name.Dump = given Line.Dump
+line_behind (Name.Show shown) = given (Line.Show shown)
 line_behind Name.Lend = then buffer_after (λ buffer. then decimal_after (λ n. given (Line.Lend buffer n)))
 line_behind Name.Poke = then named_value (λ v. then value_after (λ n. given (Line.Poke v n)))
 line_behind Name.Expect = then named_value (λ v. then value_after (λ n. given (Line.Expect v n)))
@@ -143,17 +144,17 @@ line_behind Name.OpenBus = then setting_after (λ on. given (Line.OpenBus on))
 line_behind Name.Heading = all_words Line.Heading
 
 -- a line behind which no word is left
-abbrev pub whole : Line → List (List ℕ) → Result Line LineError
-whole line [] = Ok line
+abbrev pub whole : Line → List (List ℕ) → Result (Option Line) LineError
+whole line [] = Ok (Some line)
 whole line (word ∷ rest) = Err Fault.TooMany
 
 -- a line from its name and its arguments
-abbrev pub line_of : Result (Reading Line) LineError → Result Line LineError
+abbrev pub line_of : Result (Reading Line) LineError → Result (Option Line) LineError
 line_of (Ok r) = whole r.value r.rest
 line_of (Err e) = Err e
 
 -- a line by its name
-abbrev pub line_named : Option Name → List (List ℕ) → Result Line LineError
+abbrev pub line_named : Option Name → List (List ℕ) → Result (Option Line) LineError
 line_named None rest = Err Fault.UnknownLine
 line_named (Some name) rest = line_of (line_behind name rest)
 
@@ -162,10 +163,10 @@ abbrev pub is_comment : List ℕ → Bool
 is_comment word = eqb (get_or word 0 0) 35
 
 -- a line by its first word: nothing if there is none or it begins with `#`, wrong if it is no line's name
-abbrev pub line_with : List (List ℕ) → Result Line LineError
-line_with [] = Ok Line.Nothing
-line_with (word ∷ rest) = cond (is_comment word) (Ok Line.Nothing) (line_named (name_of word) rest)
+abbrev pub line_with : List (List ℕ) → Result (Option Line) LineError
+line_with [] = Ok None
+line_with (word ∷ rest) = cond (is_comment word) (Ok None) (line_named (name_of word) rest)
 
 -- what a line says
-unfoldable pub line_read : List ℕ → Result Line LineError
+unfoldable pub line_read : List ℕ → Result (Option Line) LineError
 line_read line = line_with (words_of line)

@@ -65,16 +65,19 @@ number_after base limit none words = following (λ (word : List ℕ). judged non
 abbrev pub largest : ℕ
 largest = 4_294_967_295
 
--- an address, a byte, and any hexadecimal or decimal number
+-- an address
 abbrev pub address_after : Reader ℕ
 address_after = number_after 16 65_535 Fault.NoHexadecimal
 
+-- a byte
 abbrev pub byte_after : Reader ℕ
 byte_after = number_after 16 255 Fault.NoHexadecimal
 
+-- any hexadecimal number
 abbrev pub hexadecimal_after : Reader ℕ
 hexadecimal_after = number_after 16 largest Fault.NoHexadecimal
 
+-- any decimal number
 abbrev pub decimal_after : Reader ℕ
 decimal_after = number_after 10 largest Fault.NoDecimal
 

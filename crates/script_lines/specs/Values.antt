@@ -81,16 +81,19 @@ value_names =
     (codes "untouched", ValueName.Untouched) ∷
     (codes "kept", ValueName.Kept) ∷ []
 
--- one of each
+-- a buffer by its name
 abbrev pub buffer_after : Reader Buffer
 buffer_after = named_after buffers
 
+-- a layout's field by its name
 abbrev pub layout_field_after : Reader LayoutField
 layout_field_after = named_after layout_fields
 
+-- a channel's field by its name
 abbrev pub channel_field_after : Reader ChannelField
 channel_field_after = named_after channel_fields
 
+-- the name of a value
 abbrev pub value_name_after : Reader ValueName
 value_name_after = named_after value_names
 

@@ -4,9 +4,12 @@ ghost use Rattle.text_words.specs.Names.{words_of};
 ghost use Rattle.script_lines.specs.Readings.{read};
 ghost use Rattle.script_lines.specs.Lines.{access_after, call_behind, call_letter, creation_after, is_comment, layout_after, layout_s, line_behind, line_read, name_of, reset_after, revision_after, setting_after};
 
-use crate::arguments::{address_after, byte_after, decimal_after, hexadecimal_after, mirroring_after, named, named_after, value_after};
+use crate::arguments::{
+    address_after, byte_after, decimal_after, hexadecimal_after, mirroring_after, named,
+    named_after, value_after,
+};
 use crate::error::LineError;
-use crate::names::{CallName, NAMES, Name};
+use crate::names::{CallName, NAMES, Name, Shown};
 use crate::values::{Buffer, Value, buffer_after, named_value};
 use memory_layout::MemoryLayout;
 use std::fmt;
@@ -67,17 +70,13 @@ impl fmt::Display for CallLine {
 
 #[derive(Clone, Copy, PartialEq, Eq, Debug)]
 pub enum Line {
-    // A blank line or a comment.
-    Nothing,
     Heading,
     // Boards that are created from here on have open bus, or not.
     OpenBus(bool),
     Create(Creation),
     Call(CallLine),
     Clock(u32),
-    Registers,
-    Buffers,
-    Dump,
+    Show(Shown),
     Lend(Buffer, u32),
     Poke(Value, u32),
     Expect(Value, u32),
@@ -203,9 +202,7 @@ fn line_behind(name: Name, words: &mut Words<'_>) -> Result<Line, LineError>
             Ok(Line::Create(layout_s(mirroring, revision_after(words)?)))
         }
         Name::Create => Ok(Line::Create(creation_after(words)?)),
-        Name::Registers => Ok(Line::Registers),
-        Name::Buffers => Ok(Line::Buffers),
-        Name::Dump => Ok(Line::Dump),
+        Name::Show(shown) => Ok(Line::Show(shown)),
         Name::Lend => Ok(Line::Lend(buffer_after(words)?, decimal_after(words)?)),
         Name::Poke => Ok(Line::Poke(named_value(words)?, value_after(words)?)),
         Name::Expect => Ok(Line::Expect(named_value(words)?, value_after(words)?)),
@@ -233,21 +230,22 @@ fn is_comment(word: &[u8]) -> bool
     matches!(word, [b'#', ..])
 }
 
+// None for a blank line or a comment.
 #[tactic(auto, unfolding(crate::specs::Lines::line_read))]
-pub fn parse(text: &[u8]) -> Result<Line, LineError>
+pub fn parse(text: &[u8]) -> Result<Option<Line>, LineError>
     ensures { result ≡ line_read text.now }
 {
     let mut words = Words { text };
     let Some(word) = words.next() else {
-        return Ok(Line::Nothing);
+        return Ok(None);
     };
     if is_comment(word) {
-        return Ok(Line::Nothing);
+        return Ok(None);
     }
     let name = name_of(word).ok_or(LineError::UnknownLine)?;
     let line = line_behind(name, &mut words)?;
     match words.next() {
-        None => Ok(line),
+        None => Ok(Some(line)),
         Some(_) => Err(LineError::TooMany),
     }
 }

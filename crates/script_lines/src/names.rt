@@ -12,6 +12,14 @@ pub enum CallName {
     ReadBus,
 }
 
+// The sixteen values of `registers`, the hashes of both buffers, the dump.
+#[derive(Clone, Copy, PartialEq, Eq, Debug)]
+pub enum Shown {
+    Registers,
+    Buffers,
+    Dump,
+}
+
 #[derive(Clone, Copy, PartialEq, Eq, Debug)]
 pub enum Name {
     Call(CallName),
@@ -19,9 +27,7 @@ pub enum Name {
     Filled,
     LayoutS,
     Create,
-    Registers,
-    Buffers,
-    Dump,
+    Show(Shown),
     Lend,
     Poke,
     Expect,
@@ -53,9 +59,9 @@ pub const NAMES: [(&[u8], Name); 32] = [
     (b"N", Name::Filled),
     (b"S", Name::LayoutS),
     (b"create", Name::Create),
-    (b"G", Name::Registers),
-    (b"H", Name::Buffers),
-    (b"D", Name::Dump),
+    (b"G", Name::Show(Shown::Registers)),
+    (b"H", Name::Show(Shown::Buffers)),
+    (b"D", Name::Show(Shown::Dump)),
     (b"lend", Name::Lend),
     (b"poke", Name::Poke),
     (b"expect", Name::Expect),

@@ -159,7 +159,10 @@ pub const VALUES: [(&[u8], ValueName); 39] = [
     (b"prescaler", ValueName::OfBoard(BoardValue::Prescaler)),
     (b"pending", ValueName::OfBoard(BoardValue::Pending)),
     (b"enabled", ValueName::OfBoard(BoardValue::Enabled)),
-    (b"after-acknowledge", ValueName::OfBoard(BoardValue::AfterAcknowledge)),
+    (
+        b"after-acknowledge",
+        ValueName::OfBoard(BoardValue::AfterAcknowledge),
+    ),
     (b"cycle", ValueName::OfBoard(BoardValue::Cycle)),
     (b"halt", ValueName::OfBoard(BoardValue::Halt)),
     (b"sum", ValueName::OfBoard(BoardValue::Sum)),

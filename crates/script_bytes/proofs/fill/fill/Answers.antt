@@ -7,7 +7,7 @@ use Rattle.script_bytes.proofs.fill.fill.Goals as goal
 
 pub returns : goal.returns
 returns c =
-    let w = c.loop-byte in
+    let w = c.loop-i in
     let f : ℕ → ℕ = λ k. fill_byte ((c.args.first + k) % 2 ^ 32) c.args.seed in
     let size : length w.part ≡ length c.args.part.now = omega arith in
-    each_of w.part f (λ k h. w.invariant.filled k (omega (arith, h))) ∙ ap (λ n. tabulate n f) size
+    each_of w.part f (λ k h. w.invariant k (omega (arith, h))) ∙ ap (λ n. tabulate n f) size
