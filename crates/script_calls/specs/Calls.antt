@@ -1,17 +1,17 @@
 -- The call of the board that a line makes (oracle/FORMAT.md). Assumes nothing.
-use Rattle.std.specs.Prelude.{cond, ℕ, ◌%◌, eqb}
-use Rattle.script_lines.specs.declared.names.CallName.{CallName}
+use Rattle.script_lines.specs.declared.line.CallLine.{CallLine}
 use Rattle.vrc6_calls.specs.declared.Call.{Call}
 use Rattle.vrc6_calls.specs.declared.Call.TheVariants.{CpuRead, CpuWrite, PictureRead, PictureWrite, SoftReset, HardReset, ReadLevel, PageView, ReadForecast}
 
--- the call of a name, with the line's first two numbers; `R` reads with the bus byte 0
-abbrev pub call_of : CallName → (a b : ℕ) → Call
-call_of CallName.Read a b = CpuRead (a % 65_536) 0
-call_of CallName.Write a b = CpuWrite (a % 65_536) (b % 256)
-call_of CallName.PictureRead a b = PictureRead (a % 65_536)
-call_of CallName.PictureWrite a b = PictureWrite (a % 65_536) (b % 256)
-call_of CallName.View a b = PageView (a % 65_536)
-call_of CallName.Reset a b = cond (eqb (a % 2) 0) SoftReset HardReset
-call_of CallName.Level a b = ReadLevel
-call_of CallName.Forecast a b = ReadForecast
-call_of CallName.ReadBus a b = CpuRead (a % 65_536) (b % 256)
+-- the board's call, with the arguments of the line; `R` reads with the bus byte 0
+abbrev pub call_of : CallLine → Call
+call_of (CallLine.Read addr) = CpuRead addr 0
+call_of (CallLine.Write addr val) = CpuWrite addr val
+call_of (CallLine.PictureRead addr) = PictureRead addr
+call_of (CallLine.PictureWrite addr val) = PictureWrite addr val
+call_of (CallLine.View addr) = PageView addr
+call_of CallLine.SoftReset = SoftReset
+call_of CallLine.HardReset = HardReset
+call_of CallLine.Level = ReadLevel
+call_of CallLine.Forecast = ReadForecast
+call_of (CallLine.ReadBus addr bus) = CpuRead addr bus

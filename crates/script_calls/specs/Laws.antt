@@ -1,26 +1,28 @@
 -- Examples of what the definition gives. Assumes nothing.
-use Rattle.std.specs.Prelude.{◌≡◌, ℕ}
-use Rattle.script_lines.specs.declared.names.CallName.{CallName}
-use Rattle.script_lines.specs.declared.names.Name.{Name}
-use Rattle.script_lines.specs.Lines.{name_at}
+use Rattle.std.specs.Prelude.{◌≡◌, List, ℕ, Option, Some, None, Result, Ok, Err}
+use Rattle.text_words.specs.Names.{codes}
+use Rattle.script_lines.specs.declared.error.LineError.{LineError}
+use Rattle.script_lines.specs.declared.line.Line.{Line}
+use Rattle.script_lines.specs.Lines.{line_read}
+use Rattle.vrc6_calls.specs.declared.Call.{Call}
 use Rattle.vrc6_calls.specs.declared.Call.TheVariants.{CpuRead, CpuWrite, PictureRead, SoftReset, HardReset}
 use Rattle.script_calls.specs.Calls.{call_of}
 
--- the call that a line's name stands for; `R` for a name that makes none
-abbrev pub call_in : Name → CallName
-call_in (Name.Call call) = call
-call_in _ = CallName.Read
+-- the call that a line makes; none where it makes none
+abbrev pub call_in : Result (Option Line) LineError → Option Call
+call_in (Ok (Some (Line.Call call))) = Some (call_of call)
+call_in _ = None
 
--- the name of a call, by its place in `line_names`
-abbrev pub call_at : (place : ℕ) → CallName
-call_at place = call_in (name_at place)
+-- the call that a text makes
+abbrev pub called : List ℕ → Option Call
+called text = call_in (line_read text)
 
--- the calls of lines, by the places of their names: R, W, write, P, Z h, reset soft, B
+-- the calls of lines
 pub record CallExamples : Type 0 where
-  pub read : call_of (call_at 0) 24_576 90 ≡ CpuRead 24_576 0
-  pub write_letter : call_of (call_at 2) 45_059 160 ≡ CpuWrite 45_059 160
-  pub write_word : call_of (call_at 3) 45_059 160 ≡ CpuWrite 45_059 160
-  pub picture_read : call_of (call_at 4) 8_192 0 ≡ PictureRead 8_192
-  pub hard : call_of (call_at 10) 1 0 ≡ HardReset
-  pub soft : call_of (call_at 11) 2 0 ≡ SoftReset
-  pub read_bus : call_of (call_at 16) 24_576 90 ≡ CpuRead 24_576 90
+  pub read : called (codes "R 6000") ≡ Some (CpuRead 24_576 0)
+  pub write_letter : called (codes "W b003 a0") ≡ Some (CpuWrite 45_059 160)
+  pub write_word : called (codes "write b003 a0") ≡ Some (CpuWrite 45_059 160)
+  pub picture_read : called (codes "P 2000") ≡ Some (PictureRead 8_192)
+  pub hard : called (codes "Z h") ≡ Some HardReset
+  pub soft : called (codes "reset soft") ≡ Some SoftReset
+  pub read_bus : called (codes "B 6000 5a") ≡ Some (CpuRead 24_576 90)

@@ -4,25 +4,23 @@
 ghost use Rattle.std.specs.Prelude.{◌≡◌};
 ghost use Rattle.script_calls.specs.Calls.{call_of};
 
-use script_lines::names::CallName;
+use script_lines::CallLine;
 use vrc6_calls::Call;
 
-// The call of a name with the line's first two numbers.
-pub fn call_of(name: CallName, a: u32, b: u32) -> Call
-    ensures { result ≡ call_of name a b }
+// The board's call, with the arguments of the line.
+pub fn call_of(call: CallLine) -> Call
+    ensures { result ≡ call_of call }
 {
-    let addr = (a % 65536) as u16;
-    let val = (b % 256) as u8;
-    match name {
-        CallName::Read => Call::CpuRead(addr, 0),
-        CallName::Write => Call::CpuWrite(addr, val),
-        CallName::PictureRead => Call::PictureRead(addr),
-        CallName::PictureWrite => Call::PictureWrite(addr, val),
-        CallName::View => Call::PageView(addr),
-        CallName::Reset if a % 2 == 0 => Call::SoftReset,
-        CallName::Reset => Call::HardReset,
-        CallName::Level => Call::ReadLevel,
-        CallName::Forecast => Call::ReadForecast,
-        CallName::ReadBus => Call::CpuRead(addr, val),
+    match call {
+        CallLine::Read(addr) => Call::CpuRead(addr, 0),
+        CallLine::Write(addr, val) => Call::CpuWrite(addr, val),
+        CallLine::PictureRead(addr) => Call::PictureRead(addr),
+        CallLine::PictureWrite(addr, val) => Call::PictureWrite(addr, val),
+        CallLine::View(addr) => Call::PageView(addr),
+        CallLine::SoftReset => Call::SoftReset,
+        CallLine::HardReset => Call::HardReset,
+        CallLine::Level => Call::ReadLevel,
+        CallLine::Forecast => Call::ReadForecast,
+        CallLine::ReadBus(addr, bus) => Call::CpuRead(addr, bus),
     }
 }

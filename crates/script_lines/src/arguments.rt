@@ -23,7 +23,6 @@ const NUMBERS: [(&[u8], u32); 6] = [
 
 // A word's number, hexadecimal behind `$`.
 fn marked(word: &[u8], base: u64, limit: u32) -> Result<u32, NumberError>
-    requires { (1 ≤ base) × (base ≤ 16) }
     ensures value { result ≡ marked_number base limit word.now }
     ensures limit { IfOk result (λ n. n ≤ limit) }
 {
@@ -51,7 +50,6 @@ pub fn number_after(
     limit: u32,
     none: LineError,
 ) -> Result<u32, LineError>
-    requires { (1 ≤ base) × (base ≤ 16) }
     ensures value { read (words_of words.new.text.now) result ≡ number_after base limit none (words_of words.old.text.now) }
     ensures limit { IfOk result (λ n. n ≤ limit) }
 {
@@ -94,7 +92,7 @@ pub(crate) fn mirroring_after(words: &mut Words<'_>) -> Result<Mirroring, LineEr
 }
 
 // What a name stands for; nothing where it is none of the table.
-pub(crate) fn named<T: Copy>(table: &[(&[u8], T)], word: &[u8]) -> Option<T>
+pub fn named<T: Copy>(table: &[(&[u8], T)], word: &[u8]) -> Option<T>
     ensures { result ≡ named (map (λ entry. (entry.0.now, entry.1)) table.now) word.now }
 {
     table

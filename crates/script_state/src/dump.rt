@@ -4,87 +4,134 @@ use audio_saw::Saw;
 use base_floats::pattern::bits_of;
 use irq::VrcIrq;
 use memory_pages::Page;
-use text_output::{Output, put};
+use std::fmt;
+use std::fmt::{Display, Formatter};
 use vrc6::Board;
-use vrc6_banking::banking::Banking;
+use vrc6_banking::banking::{Banking, Revision};
 
-fn put_pages(out: &mut Output, name: &str, pages: &[Page]) {
-    put!(out; "{name}");
-    for page in pages {
-        put!(out; " {:x}", u32::from(*page));
+// Entries, each behind a blank.
+#[derive(Clone, Copy)]
+struct Entries<'a>(&'a [Page]);
+
+impl Display for Entries<'_> {
+    fn fmt<W: fmt::Write>(&self, f: &mut Formatter<W>) -> fmt::Result {
+        for page in self.0 {
+            write!(f, " {:x}", u32::from(*page))?;
+        }
+        Ok(())
     }
-    out.put(b'\n');
 }
 
-fn put_bytes(out: &mut Output, bytes: &[u8]) {
-    for byte in bytes {
-        put!(out; " {:02x}", *byte);
+// Bytes, each behind a blank.
+#[derive(Clone, Copy)]
+struct Hexadecimal<'a>(&'a [u8]);
+
+impl Display for Hexadecimal<'_> {
+    fn fmt<W: fmt::Write>(&self, f: &mut Formatter<W>) -> fmt::Result {
+        for byte in self.0 {
+            write!(f, " {:02x}", *byte)?;
+        }
+        Ok(())
     }
 }
 
-fn put_banking(out: &mut Output, banking: &Banking) {
-    let revision = if banking.revision_b { 'B' } else { 'A' };
-    let [prg16, prg8] = banking.prg_banks;
-    put!(out; "DB {revision} {:02x} {prg16:x} {prg8:x}", banking.banking_mode);
-    put_bytes(out, &banking.chr);
-    put!(out; " {}", banking.mirroring);
-    put_bytes(out, &banking.nt_banks);
-    out.put(b'\n');
-}
+// Flags as 0 or 1, each behind a blank.
+#[derive(Clone, Copy)]
+struct Flags<'a>(&'a [bool]);
 
-fn put_flag(out: &mut Output, flag: bool) {
-    put!(out; " {}", u8::from(flag));
-}
-
-fn put_irq(out: &mut Output, irq: &VrcIrq) {
-    put!(out; "DI {} {} {}", irq.reload, irq.counter, irq.prescalar_counter);
-    for flag in [
-        irq.irq_pending,
-        irq.enabled,
-        irq.enabled_after_ack,
-        irq.cycle_mode,
-    ] {
-        put_flag(out, flag);
+impl Display for Flags<'_> {
+    fn fmt<W: fmt::Write>(&self, f: &mut Formatter<W>) -> fmt::Result {
+        for flag in self.0 {
+            write!(f, " {}", u8::from(*flag))?;
+        }
+        Ok(())
     }
-    out.put(b'\n');
 }
 
-fn put_pulse(out: &mut Output, pulse: &Pulse) {
-    put!(out; " / {} {} {}", u8::from(pulse.enabled), pulse.volume, pulse.duty_cycle);
-    put_flag(out, pulse.ignore_duty);
-    put!(out; " {} {} {} {}", pulse.frequency, pulse.timer, pulse.step, pulse.freq_shift);
+#[derive(Clone, Copy)]
+struct OfBanking(Banking);
+
+impl Display for OfBanking {
+    fn fmt<W: fmt::Write>(&self, f: &mut Formatter<W>) -> fmt::Result {
+        let banking = self.0;
+        let revision = if banking.revision_b { Revision::B } else { Revision::A };
+        let [prg16, prg8] = banking.prg_banks;
+        write!(f, "DB {revision} {:02x} {prg16:x} {prg8:x}", banking.banking_mode)?;
+        write!(f, "{} {}", Hexadecimal(&banking.chr), banking.mirroring)?;
+        write!(f, "{}\n", Hexadecimal(&banking.nt_banks))
+    }
 }
 
-fn put_saw(out: &mut Output, saw: &Saw) {
-    put!(out; " / {} {} {}", u8::from(saw.enabled), saw.accum, saw.accum_rate);
-    put!(out; " {} {} {} {}", saw.frequency, saw.timer, saw.step, saw.freq_shift);
+#[derive(Clone, Copy)]
+struct OfIrq(VrcIrq);
+
+impl Display for OfIrq {
+    fn fmt<W: fmt::Write>(&self, f: &mut Formatter<W>) -> fmt::Result {
+        let irq = self.0;
+        let flags = [
+            irq.irq_pending,
+            irq.enabled,
+            irq.enabled_after_ack,
+            irq.cycle_mode,
+        ];
+        write!(f, "DI {} {} {}", irq.reload, irq.counter, irq.prescalar_counter)?;
+        write!(f, "{}\n", Flags(&flags))
+    }
 }
 
-pub fn dump(out: &mut Output, board: &Board) {
-    put_pages(out, "DP", &board.prg_pages);
-    put_pages(out, "DC", &board.chr_pages);
-    put_banking(out, &board.banking);
-    put_irq(out, &board.irq);
-    let audio = &board.audio;
-    put!(out; "DA");
-    put_pulse(out, &audio.pulse1);
-    put_pulse(out, &audio.pulse2);
-    put_saw(out, &audio.saw);
-    put!(out; " / {} {:08x}\n", u8::from(audio.halt), bits_of(audio.out));
+#[derive(Clone, Copy)]
+struct OfPulse(Pulse);
+
+impl Display for OfPulse {
+    fn fmt<W: fmt::Write>(&self, f: &mut Formatter<W>) -> fmt::Result {
+        let pulse = self.0;
+        write!(f, " / {} {} {}", u8::from(pulse.enabled), pulse.volume, pulse.duty_cycle)?;
+        write!(f, " {} {} {}", u8::from(pulse.ignore_duty), pulse.frequency, pulse.timer)?;
+        write!(f, " {} {}", pulse.step, pulse.freq_shift)
+    }
+}
+
+#[derive(Clone, Copy)]
+struct OfSaw(Saw);
+
+impl Display for OfSaw {
+    fn fmt<W: fmt::Write>(&self, f: &mut Formatter<W>) -> fmt::Result {
+        let saw = self.0;
+        write!(f, " / {} {} {}", u8::from(saw.enabled), saw.accum, saw.accum_rate)?;
+        write!(f, " {} {} {} {}", saw.frequency, saw.timer, saw.step, saw.freq_shift)
+    }
+}
+
+#[derive(Clone, Copy)]
+pub struct Dump<'a>(pub &'a Board);
+
+impl Display for Dump<'_> {
+    fn fmt<W: fmt::Write>(&self, f: &mut Formatter<W>) -> fmt::Result {
+        let board = self.0;
+        let audio = &board.audio;
+        write!(f, "DP{}\n", Entries(&board.prg_pages))?;
+        write!(f, "DC{}\n", Entries(&board.chr_pages))?;
+        write!(f, "{}{}", OfBanking(board.banking), OfIrq(board.irq))?;
+        write!(f, "DA{}{}", OfPulse(audio.pulse1), OfPulse(audio.pulse2))?;
+        write!(f, "{} / {}", OfSaw(audio.saw), u8::from(audio.halt))?;
+        write!(f, " {:08x}\n", bits_of(audio.out))
+    }
 }
 
 // In the order of `registers`: mode, PRG numbers, CHR bytes, reload, counter, enabled, pending, cycle mode.
-pub fn put_registers(out: &mut Output, board: &Board) {
-    let banking = &board.banking;
-    let irq = &board.irq;
-    let [prg16, prg8] = banking.prg_banks;
-    put!(out; "G {} {prg16} {prg8}", banking.banking_mode);
-    for byte in &banking.chr {
-        put!(out; " {}", *byte);
+#[derive(Clone, Copy)]
+pub struct Registers<'a>(pub &'a Board);
+
+impl Display for Registers<'_> {
+    fn fmt<W: fmt::Write>(&self, f: &mut Formatter<W>) -> fmt::Result {
+        let banking = &self.0.banking;
+        let irq = &self.0.irq;
+        let [prg16, prg8] = banking.prg_banks;
+        write!(f, "G {} {prg16} {prg8}", banking.banking_mode)?;
+        for byte in &banking.chr {
+            write!(f, " {}", *byte)?;
+        }
+        write!(f, " {} {}", irq.reload, irq.counter)?;
+        write!(f, "{}\n", Flags(&[irq.enabled, irq.irq_pending, irq.cycle_mode]))
     }
-    put!(out; " {} {}", irq.reload, irq.counter);
-    for flag in [irq.enabled, irq.irq_pending, irq.cycle_mode] {
-        put_flag(out, flag);
-    }
-    out.put(b'\n');
 }

@@ -3,59 +3,98 @@ use audio::Level;
 use base_floats::pattern::bits_of;
 use base_shared::Refusal;
 use script_lines::arguments::NONE;
-use script_lines::names::CallName;
 use script_lines::values::AnswerValue;
+use std::fmt;
+use std::fmt::{Display, Formatter};
 use text_output::{Output, put};
 use vrc6_calls::Answer;
 
-// Many clocks: how many ticked, the first and the last that did, the first after which pending is set, how many left a sum above 0,
-// and the hash of the levels. A clock is counted from 1, and 0 is none.
+// Many clocks: how many ticked, the first and the last that did, the first after which pending is set, whether it is set behind them, how
+// many left a sum above 0, and the hash of the levels. A clock is counted from 1.
 #[derive(Clone, Copy)]
 pub struct Clocks {
     pub ticks: u32,
-    pub first: u32,
-    pub last: u32,
-    pub interrupt: u32,
+    pub first: Option<u32>,
+    pub last: Option<u32>,
+    pub interrupt: Option<u32>,
+    pub pending: bool,
     pub sounding: u32,
     pub hash: u32,
 }
 
-// A page view: its address, length and hash.
+// A page view: its address and hash.
 #[derive(Clone, Copy)]
 pub struct View {
     pub addr: u16,
-    pub length: u32,
     pub hash: u32,
 }
 
 #[derive(Clone, Copy)]
 pub enum Said {
-    Nothing,
     Byte(u8),
     Clocks(Clocks),
-    // A level's name, by its number in a script, and its bits.
+    // A level's name and its bits.
     Level(LevelName, u32),
     Forecast(Option<u32>),
     View(View),
 }
 
-#[derive(Clone, Copy)]
+// By their numbers in a script.
+#[derive(Clone, Copy, PartialEq, Eq, Debug)]
 pub enum LevelName {
     Silent = 1,
     Held = 2,
     Playing = 3,
 }
 
-// What the last call answered: its refusal's number, 0 for none, as the board's answers have it, and what else it said.
+// A number that is no level's.
+#[derive(Clone, Copy, PartialEq, Eq, Debug)]
+pub struct UnknownLevel(pub u32);
+
+impl TryFrom<u32> for LevelName {
+    type Error = UnknownLevel;
+
+    fn try_from(number: u32) -> Result<LevelName, UnknownLevel> {
+        match number {
+            1 => Ok(LevelName::Silent),
+            2 => Ok(LevelName::Held),
+            3 => Ok(LevelName::Playing),
+            _ => Err(UnknownLevel(number)),
+        }
+    }
+}
+
+impl Display for LevelName {
+    fn fmt<W: fmt::Write>(&self, f: &mut Formatter<W>) -> fmt::Result {
+        f.write_str(match self {
+            LevelName::Silent => "Silent",
+            LevelName::Held => "Held",
+            LevelName::Playing => "Playing",
+        })
+    }
+}
+
+// What the last call answered: its refusal's number, 0 for none, and what it said. No Result: a refused read hands a byte too, and
+// `kept` checks that it is 0.
 #[derive(Clone, Copy)]
 pub struct Told {
     pub refusal: u8,
-    pub said: Said,
+    pub said: Option<Said>,
 }
 
 impl Said {
     fn of_level(name: LevelName, x: f32) -> Said {
         Said::Level(name, bits_of(x))
+    }
+
+    // Whether it is no byte, tick, level, forecast or view.
+    fn is_mute(self) -> bool {
+        match self {
+            Said::Byte(byte) => byte == 0,
+            Said::Clocks(clocks) => clocks.ticks == 0,
+            Said::Forecast(clocks) => clocks == Some(0),
+            Said::Level(..) | Said::View(_) => false,
+        }
     }
 }
 
@@ -64,7 +103,7 @@ impl Told {
     pub fn number(refusal: u8) -> Told {
         Told {
             refusal,
-            said: Said::Nothing,
+            said: None,
         }
     }
 
@@ -73,7 +112,10 @@ impl Told {
     }
 
     pub fn said(said: Said) -> Told {
-        Told { refusal: 0, said }
+        Told {
+            refusal: 0,
+            said: Some(said),
+        }
     }
 
     fn of_level(level: Level) -> Told {
@@ -92,73 +134,65 @@ impl Told {
         }
     }
 
-    pub fn of(answer: Answer) -> Told {
-        match answer {
-            Answer::Byte(byte, refusal) => Told {
-                refusal,
-                said: Said::Byte(byte),
-            },
-            Answer::Done(n) | Answer::Tick(_, n) | Answer::View(n) => Told::number(n),
-            Answer::OfLevel(level) => Told::of_level(level),
-            Answer::OfForecast(forecast) => Told::of_forecast(forecast),
-        }
-    }
-
     // Whether a call told no byte, tick, level, forecast or view.
     pub fn is_mute(&self) -> bool {
-        match self.said {
-            Said::Nothing => true,
-            Said::Byte(byte) => byte == 0,
-            Said::Clocks(clocks) => clocks.ticks == 0,
-            Said::Level(..) => false,
-            Said::Forecast(clocks) => clocks == Some(0),
-            Said::View(view) => view.length == 0,
-        }
+        self.said.is_none_or(|said| said.is_mute())
     }
 
     // 0 where the call says nothing of a value.
     pub fn value(&self, name: AnswerValue) -> u32 {
         match (name, self.said) {
             (AnswerValue::Refusal, _) => u32::from(self.refusal),
-            (AnswerValue::ViewLength, Said::View(view)) => view.length,
-            (AnswerValue::Byte, Said::Byte(byte)) => u32::from(byte),
-            (AnswerValue::Ticks, Said::Clocks(clocks)) => clocks.ticks,
-            (AnswerValue::FirstTick, Said::Clocks(clocks)) => clocks.first,
-            (AnswerValue::LastTick, Said::Clocks(clocks)) => clocks.last,
-            (AnswerValue::Interrupt, Said::Clocks(clocks)) => clocks.interrupt,
-            (AnswerValue::Sounding, Said::Clocks(clocks)) => clocks.sounding,
-            (AnswerValue::Level, Said::Level(name, _)) => name as u32,
-            (AnswerValue::LevelBits, Said::Level(_, bits)) => bits,
-            (AnswerValue::Forecast, Said::Forecast(clocks)) => clocks.unwrap_or(NONE),
+            (AnswerValue::ViewLength, Some(Said::View(_))) => 1024,
+            (AnswerValue::Byte, Some(Said::Byte(byte))) => u32::from(byte),
+            (AnswerValue::Ticks, Some(Said::Clocks(clocks))) => clocks.ticks,
+            (AnswerValue::FirstTick, Some(Said::Clocks(clocks))) => clocks.first.unwrap_or(0),
+            (AnswerValue::LastTick, Some(Said::Clocks(clocks))) => clocks.last.unwrap_or(0),
+            (AnswerValue::Interrupt, Some(Said::Clocks(clocks))) => clocks.interrupt.unwrap_or(0),
+            (AnswerValue::Sounding, Some(Said::Clocks(clocks))) => clocks.sounding,
+            (AnswerValue::Level, Some(Said::Level(name, _))) => name as u32,
+            (AnswerValue::LevelBits, Some(Said::Level(_, bits))) => bits,
+            (AnswerValue::Forecast, Some(Said::Forecast(clocks))) => clocks.unwrap_or(NONE),
             _ => 0,
         }
     }
 }
 
-fn put_said(out: &mut Output, said: Said) {
-    match said {
-        Said::Byte(byte) => put!(out; " {byte:02x}"),
-        Said::Level(LevelName::Silent, bits) => put!(out; " {bits:08x} Silent"),
-        Said::Level(LevelName::Held, bits) => put!(out; " {bits:08x} Held"),
-        Said::Level(LevelName::Playing, bits) => put!(out; " {bits:08x} Playing"),
-        Said::Forecast(Some(clocks)) => put!(out; " {clocks}"),
-        Said::Forecast(None) => put!(out; " none"),
-        Said::View(view) => put!(out; " {:08x}", view.hash),
-        _ => {}
+impl From<Answer> for Told {
+    fn from(answer: Answer) -> Told {
+        match answer {
+            Answer::Byte(byte, refusal) => Told {
+                refusal,
+                said: Some(Said::Byte(byte)),
+            },
+            Answer::Done(n) | Answer::Tick(_, n) | Answer::View(n) => Told::number(n),
+            Answer::OfLevel(level) => Told::of_level(level),
+            Answer::OfForecast(forecast) => Told::of_forecast(forecast),
+        }
     }
 }
 
-fn letter(name: CallName) -> u8 {
-    match name {
-        CallName::Read => b'R',
-        CallName::Write => b'W',
-        CallName::PictureRead => b'P',
-        CallName::PictureWrite => b'Q',
-        CallName::View => b'V',
-        CallName::Reset => b'Z',
-        CallName::Level => b'L',
-        CallName::Forecast => b'F',
-        CallName::ReadBus => b'B',
+// The counts and the hash; a clock that there is not is 0.
+impl Display for Clocks {
+    fn fmt<W: fmt::Write>(&self, f: &mut Formatter<W>) -> fmt::Result {
+        let first = self.first.unwrap_or(0);
+        let last = self.last.unwrap_or(0);
+        write!(f, "{} {first} {last}", self.ticks)?;
+        write!(f, " {} {:08x}", u8::from(self.pending), self.hash)
+    }
+}
+
+// Behind the letter of the call.
+impl Display for Said {
+    fn fmt<W: fmt::Write>(&self, f: &mut Formatter<W>) -> fmt::Result {
+        match self {
+            Said::Byte(byte) => write!(f, "{:02x}", *byte),
+            Said::Clocks(clocks) => clocks.fmt(f),
+            Said::Level(name, bits) => write!(f, "{:08x} {}", *bits, *name),
+            Said::Forecast(Some(clocks)) => write!(f, "{}", *clocks),
+            Said::Forecast(None) => f.write_str("none"),
+            Said::View(view) => write!(f, "{:08x}", view.hash),
+        }
     }
 }
 
@@ -167,23 +201,10 @@ pub fn put_refused(out: &mut Output, refusal: u8) {
 }
 
 // A call's answer: its letter and what it said.
-pub fn put_answer(out: &mut Output, name: CallName, told: Told) {
-    if told.refusal != 0 {
-        put_refused(out, told.refusal);
-        return;
-    }
-    out.put(letter(name));
-    put_said(out, told.said);
-    out.put(b'\n');
-}
-
-// The answer of clocks; pending as it is behind them.
-pub fn put_clocks(out: &mut Output, told: Told, pending: bool) {
-    match told.said {
-        Said::Clocks(clocks) => {
-            put!(out; "C {} {} {}", clocks.ticks, clocks.first, clocks.last);
-            put!(out; " {} {:08x}\n", u8::from(pending), clocks.hash);
-        }
-        _ => put_refused(out, told.refusal),
+pub fn put_answer<L: Display + Drop>(out: &mut Output, letter: L, told: Told) {
+    match told {
+        Told { refusal: 0, said: None } => put!(out; "{letter}\n"),
+        Told { refusal: 0, said: Some(said) } => put!(out; "{letter} {said}\n"),
+        Told { refusal, .. } => put_refused(out, refusal),
     }
 }

@@ -1,45 +1,57 @@
-// The values of a board by their names, as numbers. Of a name with several the number of the place counts, from the first again
-// behind the last.
-use crate::channels::{Channel, Field, byte, half};
+// The values of a board by their names, as numbers. Registers are counted from the first again behind the last.
+use crate::channels::{Channel, byte, half};
+use audio::Audio;
 use base_floats::pattern::{bits_of, float_of};
 use memory_layout::MemoryLayout;
 use memory_pages::Page;
-use script_lines::values::BoardValue;
+use memory_tables::entry_for;
+use script_lines::values::{BoardValue, ChannelField, ChannelName, LayoutField};
 use vrc6::Board;
 
-// In the order of their names (script_lines, `layout_fields`). A script names one by its place, so an enum of five would say no more.
-fn layout_value(layout: &MemoryLayout, at: usize) -> u32 {
-    match at % 5 {
-        0 => layout.prg_rom,
-        1 => layout.chr,
-        2 => u32::from(layout.chr_writable),
-        3 => layout.prg_ram,
-        _ => layout.ciram,
+fn layout_value(layout: MemoryLayout, field: LayoutField) -> u32 {
+    match field {
+        LayoutField::PrgRom => layout.prg_rom,
+        LayoutField::Chr => layout.chr,
+        LayoutField::ChrWritable => u32::from(layout.chr_writable),
+        LayoutField::PrgRam => layout.prg_ram,
+        LayoutField::Ciram => layout.ciram,
     }
 }
 
-fn set_layout(layout: &mut MemoryLayout, at: usize, n: u32) {
-    match at % 5 {
-        0 => layout.prg_rom = n,
-        1 => layout.chr = n,
-        2 => layout.chr_writable = n != 0,
-        3 => layout.prg_ram = n,
-        _ => layout.ciram = n,
+fn set_layout(layout: &mut MemoryLayout, field: LayoutField, n: u32) {
+    match field {
+        LayoutField::PrgRom => layout.prg_rom = n,
+        LayoutField::Chr => layout.chr = n,
+        LayoutField::ChrWritable => layout.chr_writable = n != 0,
+        LayoutField::PrgRam => layout.prg_ram = n,
+        LayoutField::Ciram => layout.ciram = n,
     }
 }
 
-pub fn value(board: &Board, name: BoardValue, place: u32) -> u32 {
-    let at = place as usize;
-    let field = Field::ALL[at % 10];
+fn channel_value(audio: &Audio, channel: ChannelName, field: ChannelField) -> u32 {
+    match channel {
+        ChannelName::Pulse1 => audio.pulse1.value(field),
+        ChannelName::Pulse2 => audio.pulse2.value(field),
+        ChannelName::Saw => audio.saw.value(field),
+    }
+}
+
+fn set_channel(audio: &mut Audio, channel: ChannelName, field: ChannelField, n: u32) {
+    match channel {
+        ChannelName::Pulse1 => audio.pulse1.set(field, n),
+        ChannelName::Pulse2 => audio.pulse2.set(field, n),
+        ChannelName::Saw => audio.saw.set(field, n),
+    }
+}
+
+pub fn value(board: &Board, name: BoardValue) -> u32 {
     match name {
-        BoardValue::Entry => u32::from(board.prg_pages[at / 1024 % 64]),
-        BoardValue::PictureEntry => u32::from(board.chr_pages[at / 1024 % 16]),
-        BoardValue::Chr => u32::from(board.banking.chr[at % 8]),
-        BoardValue::Nametable => u32::from(board.banking.nt_banks[at % 4]),
-        BoardValue::Layout => layout_value(&board.layout, at),
-        BoardValue::Pulse1 => board.audio.pulse1.value(field),
-        BoardValue::Pulse2 => board.audio.pulse2.value(field),
-        BoardValue::Saw => board.audio.saw.value(field),
+        BoardValue::Entry(addr) => u32::from(entry_for(&board.prg_pages, addr)),
+        BoardValue::PictureEntry(addr) => u32::from(entry_for(&board.chr_pages, addr)),
+        BoardValue::Chr(i) => u32::from(board.banking.chr[(i % 8) as usize]),
+        BoardValue::Nametable(i) => u32::from(board.banking.nt_banks[(i % 4) as usize]),
+        BoardValue::Layout(field) => layout_value(board.layout, field),
+        BoardValue::Channel(channel, field) => channel_value(&board.audio, channel, field),
         BoardValue::Mode => u32::from(board.banking.banking_mode),
         BoardValue::Prg16 => u32::from(board.banking.prg_banks[0]),
         BoardValue::Prg8 => u32::from(board.banking.prg_banks[1]),
@@ -59,18 +71,16 @@ pub fn value(board: &Board, name: BoardValue, place: u32) -> u32 {
 }
 
 // A number that is too large for its field is taken by its low bits, and a flag is set by any but 0.
-pub fn set(board: &mut Board, name: BoardValue, place: u32, n: u32) {
-    let at = place as usize;
-    let field = Field::ALL[at % 10];
+pub fn set(board: &mut Board, name: BoardValue, n: u32) {
     match name {
-        BoardValue::Entry => board.prg_pages[at / 1024 % 64] = Page::from(n),
-        BoardValue::PictureEntry => board.chr_pages[at / 1024 % 16] = Page::from(n),
-        BoardValue::Chr => board.banking.chr[at % 8] = byte(n),
-        BoardValue::Nametable => board.banking.nt_banks[at % 4] = byte(n),
-        BoardValue::Layout => set_layout(&mut board.layout, at, n),
-        BoardValue::Pulse1 => board.audio.pulse1.set(field, n),
-        BoardValue::Pulse2 => board.audio.pulse2.set(field, n),
-        BoardValue::Saw => board.audio.saw.set(field, n),
+        BoardValue::Entry(addr) => board.prg_pages[(addr / 1024) as usize] = Page::from(n),
+        BoardValue::PictureEntry(addr) => {
+            board.chr_pages[(addr / 1024 % 16) as usize] = Page::from(n);
+        }
+        BoardValue::Chr(i) => board.banking.chr[(i % 8) as usize] = byte(n),
+        BoardValue::Nametable(i) => board.banking.nt_banks[(i % 4) as usize] = byte(n),
+        BoardValue::Layout(field) => set_layout(&mut board.layout, field, n),
+        BoardValue::Channel(channel, field) => set_channel(&mut board.audio, channel, field, n),
         BoardValue::Mode => board.banking.banking_mode = byte(n),
         BoardValue::Prg16 => board.banking.prg_banks[0] = byte(n),
         BoardValue::Prg8 => board.banking.prg_banks[1] = byte(n),
@@ -89,41 +99,22 @@ pub fn set(board: &mut Board, name: BoardValue, place: u32, n: u32) {
     }
 }
 
-// Each name, with the places of its values: how many, and how far apart.
-const PLACES: [(BoardValue, u32, u32); 23] = [
-    (BoardValue::Entry, 64, 1024),
-    (BoardValue::PictureEntry, 16, 1024),
-    (BoardValue::Chr, 8, 1),
-    (BoardValue::Nametable, 4, 1),
-    (BoardValue::Layout, 5, 1),
-    (BoardValue::Pulse1, 10, 1),
-    (BoardValue::Pulse2, 10, 1),
-    (BoardValue::Saw, 10, 1),
-    (BoardValue::Mode, 1, 1),
-    (BoardValue::Prg16, 1, 1),
-    (BoardValue::Prg8, 1, 1),
-    (BoardValue::Mirroring, 1, 1),
-    (BoardValue::Revision, 1, 1),
-    (BoardValue::Reload, 1, 1),
-    (BoardValue::Counter, 1, 1),
-    (BoardValue::Prescaler, 1, 1),
-    (BoardValue::Pending, 1, 1),
-    (BoardValue::Enabled, 1, 1),
-    (BoardValue::AfterAcknowledge, 1, 1),
-    (BoardValue::Cycle, 1, 1),
-    (BoardValue::Halt, 1, 1),
-    (BoardValue::Sum, 1, 1),
-    (BoardValue::OpenBus, 1, 1),
-];
-
-fn same_at(one: &Board, other: &Board, name: BoardValue, count: u32, apart: u32) -> bool {
-    (0..count).all(|i| {
-        let at = i.wrapping_mul(apart);
-        value(one, name, at) == value(other, name, at)
-    })
+// A sum is compared by its bits, which a derived `==` would not do.
+fn same_audio(one: &Audio, other: &Audio) -> bool {
+    (one.pulse1 == other.pulse1)
+        & (one.pulse2 == other.pulse2)
+        & (one.saw == other.saw)
+        & (one.halt == other.halt)
+        & (bits_of(one.out) == bits_of(other.out))
 }
 
-// Whether two boards have the same values. A sum is compared by its bits, which a derived `==` would not do.
+// Whether two boards have the same values.
 pub fn same(one: &Board, other: &Board) -> bool {
-    PLACES.iter().all(|(name, count, apart)| same_at(one, other, *name, *count, *apart))
+    (one.layout == other.layout)
+        & (one.prg_pages == other.prg_pages)
+        & (one.chr_pages == other.chr_pages)
+        & (one.banking == other.banking)
+        & (one.irq == other.irq)
+        & same_audio(&one.audio, &other.audio)
+        & (one.open_bus == other.open_bus)
 }

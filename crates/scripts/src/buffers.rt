@@ -4,6 +4,7 @@ ghost use Rattle.std.specs.Prelude.{◌≤◌};
 use memory_layout::MemoryLayout;
 use script_bytes::fill::fill;
 use script_bytes::fnv::{FNV_START, fnv};
+use script_lines::LineError;
 use script_lines::line::Bytes;
 use script_lines::values::Buffer;
 use vrc6::Board;
@@ -11,108 +12,114 @@ use vrc6::board::Changed;
 use vrc6_banking::banking::Settings;
 use vrc6_calls::{Call, Stepped, step};
 
-// The largest lengths that a layout can ask. A board uses the first bytes of both.
-const FIXED: usize = 525312;
-
-const CHANGING: usize = 274432;
-
-// How many bytes are lent.
-#[derive(Clone, Copy)]
-struct Lent {
-    fixed: usize,
-    changing: usize,
-    ghost fixed_room: { fixed ≤ 525312 },
-    ghost changing_room: { changing ≤ 274432 },
-}
-
+// A buffer, whose first bytes are lent. No Vec: a script lends fewer bytes and then more, and those between are as they were, so the
+// buffer is longer than what is lent; and a script that could run out of memory would be told of it where it now can't be.
 #[derive(Drop)]
-pub struct Buffers {
-    fixed: [u8; FIXED],
-    changing: [u8; CHANGING],
-    lent: Lent,
+struct Lent<const N: usize> {
+    bytes: [u8; N],
+    length: usize,
+    ghost within: { length ≤ N },
 }
 
-impl Lent {
-    const NONE: Lent = Lent {
-        fixed: 0,
-        changing: 0,
-    };
-
-    // The lengths of a layout's buffers. One above its limits gets no bytes, and create refuses it.
-    fn of(layout: MemoryLayout) -> Lent {
-        match layout.limited() {
-            Some(limited) => Lent {
-                fixed: limited.fixed_length() as usize,
-                changing: limited.changing_length() as usize,
-            },
-            None => Lent::NONE,
+impl<const N: usize> Lent<N> {
+    fn none() -> Lent<N> {
+        Lent {
+            bytes: [0; N],
+            length: 0,
         }
     }
+
+    fn bytes(&self) -> &[u8] {
+        &self.bytes[..self.length]
+    }
+
+    fn bytes_mut(&mut self) -> &mut [u8] {
+        let length = self.length;
+        &mut self.bytes[..length]
+    }
+
+    // Lends so many bytes from here on, if there are as many.
+    fn lend(&mut self, length: u32) -> Result<(), LineError> {
+        let length = length as usize;
+        if N < length {
+            return Err(LineError::TooLarge);
+        }
+        self.length = length;
+        Ok(())
+    }
+}
+
+// The largest lengths that a layout can ask. A board uses the first bytes of both.
+#[derive(Drop)]
+pub struct Buffers {
+    fixed: Lent<525312>,
+    changing: Lent<274432>,
 }
 
 impl Buffers {
     pub fn new() -> Buffers {
         Buffers {
-            fixed: [0; FIXED],
-            changing: [0; CHANGING],
-            lent: Lent::NONE,
+            fixed: Lent::none(),
+            changing: Lent::none(),
         }
     }
 
     // The lent bytes of a buffer.
     pub fn lent(&self, buffer: Buffer) -> &[u8] {
         match buffer {
-            Buffer::Fixed => &self.fixed[..self.lent.fixed],
-            Buffer::Changing => &self.changing[..self.lent.changing],
+            Buffer::Fixed => self.fixed.bytes(),
+            Buffer::Changing => self.changing.bytes(),
         }
     }
 
     fn lent_mut(&mut self, buffer: Buffer) -> &mut [u8] {
-        let lent = self.lent;
         match buffer {
-            Buffer::Fixed => &mut self.fixed[..lent.fixed],
-            Buffer::Changing => &mut self.changing[..lent.changing],
+            Buffer::Fixed => self.fixed.bytes_mut(),
+            Buffer::Changing => self.changing.bytes_mut(),
         }
     }
 
-    // Lends so many bytes from here on. Whether there are as many.
-    pub fn lend(&mut self, buffer: Buffer, length: u32) -> bool {
-        let n = length as usize;
+    // Lends so many bytes from here on.
+    pub fn lend(&mut self, buffer: Buffer, length: u32) -> Result<(), LineError> {
         match buffer {
-            Buffer::Fixed if n <= FIXED => self.lent.fixed = n,
-            Buffer::Changing if n <= CHANGING => self.lent.changing = n,
-            _ => return false,
+            Buffer::Fixed => self.fixed.lend(length),
+            Buffer::Changing => self.changing.lend(length),
         }
-        true
     }
 
-    // Lends what a layout asks.
+    // Lends what a layout asks. One above its limits gets no bytes, and create refuses it.
     pub fn lend_layout(&mut self, layout: MemoryLayout) {
-        self.lent = Lent::of(layout);
+        match layout.limited() {
+            Some(limited) => {
+                self.fixed.length = limited.fixed_length() as usize;
+                self.changing.length = limited.changing_length() as usize;
+            }
+            None => {
+                self.fixed.length = 0;
+                self.changing.length = 0;
+            }
+        }
     }
 
     // Fills the lent bytes, but for the page of zeros.
     fn fill(&mut self, seed: u32) {
-        let fixed = self.lent_mut(Buffer::Fixed);
+        let fixed = self.fixed.bytes_mut();
         let n = fixed.len();
         if n < 1024 {
             return;
         }
         fixed[..1024].fill(0);
         fill(&mut fixed[1024..], 1024, seed);
-        fill(
-            self.lent_mut(Buffer::Changing),
-            (n % 0x1_0000_0000) as u32,
-            seed,
-        );
+        let first = (n % 0x1_0000_0000) as u32;
+        fill(self.changing.bytes_mut(), first, seed);
     }
 
     // What the lent bytes are when a board is created.
     pub fn set(&mut self, bytes: Bytes) {
         match bytes {
             Bytes::Zeros => {
-                self.lent_mut(Buffer::Fixed).fill(0);
-                self.lent_mut(Buffer::Changing).fill(0);
+                self.fixed.bytes_mut().fill(0);
+                self.changing.bytes_mut().fill(0);
             }
             Bytes::Filled(seed) => self.fill(seed),
             Bytes::Kept => {}
@@ -131,26 +138,15 @@ impl Buffers {
     }
 
     pub fn create(&self, layout: MemoryLayout, settings: Settings) -> Changed {
-        Board::create(
-            layout,
-            settings,
-            self.lent(Buffer::Fixed),
-            self.lent(Buffer::Changing),
-        )
+        Board::create(layout, settings, self.fixed.bytes(), self.changing.bytes())
     }
 
     pub fn step(&mut self, board: Board, call: Call) -> Stepped {
-        let changing: &mut [u8] = &mut self.changing;
-        step(
-            board,
-            &self.fixed[..self.lent.fixed],
-            &mut changing[..self.lent.changing],
-            call,
-        )
+        step(board, self.fixed.bytes(), self.changing.bytes_mut(), call)
     }
 
     // The bytes of a page view, which the call itself lends back.
     pub fn view(&self, board: Board, addr: u16) -> &[u8] {
-        board.page_view(self.lent(Buffer::Fixed), self.lent(Buffer::Changing), addr)
+        board.page_view(self.fixed.bytes(), self.changing.bytes(), addr)
     }
 }

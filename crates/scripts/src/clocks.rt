@@ -1,21 +1,21 @@
 // Many clocks at once.
-use audio::Audio;
 use base_floats::pattern::bits_of;
 use script_bytes::fnv::{FNV_START, fnv_word};
-use script_state::told::{Clocks, Said, Told};
+use script_state::told::Clocks;
 use vrc6::Board;
+use vrc6::board::Clocked;
 
 // Clock number k, from 1, with what it left.
-fn count(clocks: &mut Clocks, k: u32, ticked: bool, pending: bool, audio: Audio) {
-    if ticked {
-        if clocks.ticks == 0 {
-            clocks.first = k;
-        }
+fn count(clocks: &mut Clocks, k: u32, clocked: &Clocked) {
+    let audio = clocked.board.audio;
+    if clocked.ticked {
         clocks.ticks = clocks.ticks.wrapping_add(1);
-        clocks.last = k;
+        clocks.first = clocks.first.or(Some(k));
+        clocks.last = Some(k);
     }
-    if pending & (clocks.interrupt == 0) {
-        clocks.interrupt = k;
+    clocks.pending = clocked.board.irq.irq_pending;
+    if clocks.pending {
+        clocks.interrupt = clocks.interrupt.or(Some(k));
     }
     if audio.out > 0.0 {
         clocks.sounding = clocks.sounding.wrapping_add(1);
@@ -23,25 +23,25 @@ fn count(clocks: &mut Clocks, k: u32, ticked: bool, pending: bool, audio: Audio)
     clocks.hash = fnv_word(clocks.hash, bits_of(audio.output()));
 }
 
-// The board behind n clocks, and what they told. Where one is refused all are: a refused clock leaves the board.
-pub fn clock_times(given: Board, n: u32) -> (Board, Told) {
+// The board behind n clocks, and what they told, or the number of a refusal. Where one clock is refused all are: it leaves the board.
+pub fn clock_times(given: Board, n: u32) -> Result<(Board, Clocks), u8> {
     let mut board = given;
     let mut clocks = Clocks {
         ticks: 0,
-        first: 0,
-        last: 0,
-        interrupt: 0,
+        first: None,
+        last: None,
+        interrupt: None,
+        pending: given.irq.irq_pending,
         sounding: 0,
         hash: FNV_START,
     };
     for k in 1..=n {
         let clocked = board.clock();
         if clocked.refusal != 0 {
-            return (given, Told::number(clocked.refusal));
+            return Err(clocked.refusal);
         }
+        count(&mut clocks, k, &clocked);
         board = clocked.board;
-        let irq = board.irq;
-        count(&mut clocks, k, clocked.ticked, irq.irq_pending, board.audio);
     }
-    (board, Told::said(Said::Clocks(clocks)))
+    Ok((board, clocks))
 }

@@ -11,34 +11,32 @@ mod rows;
 mod run;
 mod session;
 
-use crate::options::Options;
+use crate::options::{Printed, option_of};
 use crate::run::run;
+use cartridge_files::open_read;
 use program_arguments::Arguments;
-use std::fs::open;
 use std::io::Print;
 use text_output::{Output, put};
 
-// A name that is no UTF-8 text names no file.
-fn play_file(rt: &HostRuntime, name: &[u8], options: Options) {
+fn play_file(rt: &HostRuntime, name: &[u8], printed: Printed) {
     let mut out = Output::new(rt.stdout());
-    if let Ok(path) = str::from_utf8(name) {
-        if let Ok(mut file) = open(rt, path) {
-            run(&mut file, name, &mut out, options);
-            return;
+    match open_read(rt, name) {
+        Ok(mut file) => run(&mut file, name, &mut out, printed),
+        Err(_) => {
+            put!(out; "no such file: ");
+            out.text(name);
+            out.put(b'\n');
+            out.flush();
         }
     }
-    put!(out; "no such file: ");
-    out.text(name);
-    out.put(b'\n');
-    out.flush();
 }
 
 fn main(rt: HostRuntime) {
-    let mut options = Options::new();
+    let mut printed = Printed::Rows;
     for argument in Arguments::new(&rt) {
-        match options.with(argument.bytes()) {
-            Some(more) => options = more,
-            None => play_file(&rt, argument.bytes(), options),
+        match option_of(argument.bytes()) {
+            Some(more) => printed = more,
+            None => play_file(&rt, argument.bytes(), printed),
         }
     }
 }

@@ -1,27 +1,20 @@
 // What the arguments so far ask for.
-use text_words::names::place_in;
+use script_lines::arguments::named;
 
-#[derive(Clone, Copy)]
-pub struct Options {
-    // An answer for each call, and a dump behind it.
-    pub answers: bool,
-    pub full: bool,
+// The rows alone, an answer for each call too, or a dump behind each answer as well.
+#[derive(Clone, Copy, PartialEq, Eq, PartialOrd, Ord, Debug)]
+pub enum Printed {
+    Rows,
+    Answers,
+    Dumps,
 }
 
-impl Options {
-    pub fn new() -> Options {
-        Options {
-            answers: false,
-            full: false,
-        }
-    }
+const OPTIONS: [(&[u8], Printed); 2] = [
+    (b"--answers", Printed::Answers),
+    (b"--full", Printed::Dumps),
+];
 
-    // With an argument, if it is an option and no script.
-    pub fn with(self, argument: &[u8]) -> Option<Options> {
-        let place = place_in(b"--answers --full", argument)?;
-        Some(Options {
-            answers: true,
-            full: place == 1,
-        })
-    }
+// What an argument asks for, if it is an option and no script.
+pub fn option_of(argument: &[u8]) -> Option<Printed> {
+    named(&OPTIONS, argument)
 }

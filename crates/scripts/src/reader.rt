@@ -7,7 +7,8 @@ use std::io::Read;
 // A line that fills the buffer is too long.
 const ROOM: usize = 65536;
 
-// The bytes from one place to another are read and not taken yet. A line is lent out of the buffer, which a BufReader would copy.
+// The bytes from one place to another are read and not taken yet: places, since a struct can't hold a slice of itself. A line is lent out of
+// the buffer, which a BufReader would copy.
 #[derive(Drop)]
 pub struct Reader {
     input: [u8; ROOM],

@@ -1,6 +1,7 @@
 // The rows of what is expected and what there is.
 use script_lines::arguments::NONE;
 use script_lines::values::{AnswerValue, Value};
+use script_state::told::{LevelName, UnknownLevel};
 use text_output::{Output, put};
 use text_words::names::Words;
 
@@ -11,12 +12,20 @@ pub struct Rows {
     pub wrong: u32,
 }
 
+// A level's name as a script writes it, or a number that is none's.
+fn put_level(out: &mut Output, n: u32) {
+    match LevelName::try_from(n) {
+        Ok(LevelName::Silent) => put!(out; "silent"),
+        Ok(LevelName::Held) => put!(out; "held"),
+        Ok(LevelName::Playing) => put!(out; "playing"),
+        Err(UnknownLevel(n)) => put!(out; "{n}"),
+    }
+}
+
 // A value: a number, or the word for a level's name or for no forecast.
 fn put_value(out: &mut Output, value: Value, n: u32) {
     match (value, n) {
-        (Value::Answer(AnswerValue::Level), 1) => put!(out; "silent"),
-        (Value::Answer(AnswerValue::Level), 2) => put!(out; "held"),
-        (Value::Answer(AnswerValue::Level), 3) => put!(out; "playing"),
+        (Value::Answer(AnswerValue::Level), _) => put_level(out, n),
         (Value::Answer(AnswerValue::Forecast), NONE) => put!(out; "none"),
         _ => put!(out; "{n}"),
     }
@@ -45,7 +54,7 @@ impl Rows {
         &mut self,
         out: &mut Output,
         line: &[u8],
-        number: u32,
+        number: u64,
         value: Value,
         expected: u32,
         got: u32,
