@@ -1,25 +1,44 @@
 // The values of a channel by their names.
+ghost use Rattle.std.specs.Prelude.{◌≡◌, ◌%◌, ℕ};
+ghost use Rattle.script_lines.specs.declared.values.ChannelField.{ChannelField};
+ghost use Rattle.script_state.specs.Channels.{pulse_value, pulse_with, saw_value, saw_with};
+
 use audio_pulse::Pulse;
 use audio_saw::Saw;
 use script_lines::values::ChannelField;
 
 // The low bits of a number that is too large for its field.
-pub(crate) fn byte(n: u32) -> u8 {
+pub(crate) fn byte(n: u32) -> u8
+    ensures { result ≡ n % 256 }
+{
     (n % 256) as u8
 }
 
-pub(crate) fn half(n: u32) -> u16 {
+pub(crate) fn half(n: u32) -> u16
+    ensures { result ≡ n % 65536 }
+{
     (n % 65536) as u16
 }
 
 // A channel, whose values are shown and set as numbers: a flag is set by any but 0. What it has not is 0, and stays.
 pub trait Channel {
-    fn value(&self, field: ChannelField) -> u32;
+    ghost shown: { Self → ChannelField → ℕ };
 
-    fn set(&mut self, field: ChannelField, n: u32);
+    ghost changed: { Self → ChannelField → ℕ → Self };
+
+    fn value(&self, field: ChannelField) -> u32
+        ensures { result ≡ shown self.now field };
+
+    fn set(&mut self, field: ChannelField, n: u32)
+        ensures { self.new ≡ changed self.old field n };
 }
 
 impl Channel for Pulse {
+    ghost shown = { pulse_value };
+
+    ghost changed = { pulse_with };
+
+    #[tactic(auto, using(base_shared::proofs::Tests::byte_flag))]
     fn value(&self, field: ChannelField) -> u32 {
         match field {
             ChannelField::Enabled => u32::from(self.enabled),
@@ -50,6 +69,11 @@ impl Channel for Pulse {
 }
 
 impl Channel for Saw {
+    ghost shown = { saw_value };
+
+    ghost changed = { saw_with };
+
+    #[tactic(auto, using(base_shared::proofs::Tests::byte_flag))]
     fn value(&self, field: ChannelField) -> u32 {
         match field {
             ChannelField::Enabled => u32::from(self.enabled),

@@ -1,4 +1,8 @@
 // The values of a board by their names, as numbers. Registers are counted from the first again behind the last.
+ghost use Rattle.std.specs.Prelude.{◌≡◌, IsTrue};
+ghost use Rattle.script_lines.specs.declared.values.BoardValue.{BoardValue};
+ghost use Rattle.script_state.specs.Values.{board_value, board_with, channel_value, channel_with, layout_value, layout_with};
+
 use crate::channels::{Channel, byte, half};
 use audio::Audio;
 use base_floats::pattern::{bits_of, float_of};
@@ -8,7 +12,10 @@ use memory_tables::entry_for;
 use script_lines::values::{BoardValue, ChannelField, ChannelName, LayoutField};
 use vrc6::Board;
 
-fn layout_value(layout: MemoryLayout, field: LayoutField) -> u32 {
+#[tactic(auto, using(base_shared::proofs::Tests::byte_flag))]
+fn layout_value(layout: MemoryLayout, field: LayoutField) -> u32
+    ensures { result ≡ layout_value layout field }
+{
     match field {
         LayoutField::PrgRom => layout.prg_rom,
         LayoutField::Chr => layout.chr,
@@ -18,7 +25,9 @@ fn layout_value(layout: MemoryLayout, field: LayoutField) -> u32 {
     }
 }
 
-fn set_layout(layout: &mut MemoryLayout, field: LayoutField, n: u32) {
+fn set_layout(layout: &mut MemoryLayout, field: LayoutField, n: u32)
+    ensures { layout.new ≡ layout_with layout.old field n }
+{
     match field {
         LayoutField::PrgRom => layout.prg_rom = n,
         LayoutField::Chr => layout.chr = n,
@@ -28,7 +37,9 @@ fn set_layout(layout: &mut MemoryLayout, field: LayoutField, n: u32) {
     }
 }
 
-fn channel_value(audio: &Audio, channel: ChannelName, field: ChannelField) -> u32 {
+fn channel_value(audio: &Audio, channel: ChannelName, field: ChannelField) -> u32
+    ensures { result ≡ channel_value audio.now channel field }
+{
     match channel {
         ChannelName::Pulse1 => audio.pulse1.value(field),
         ChannelName::Pulse2 => audio.pulse2.value(field),
@@ -36,7 +47,9 @@ fn channel_value(audio: &Audio, channel: ChannelName, field: ChannelField) -> u3
     }
 }
 
-fn set_channel(audio: &mut Audio, channel: ChannelName, field: ChannelField, n: u32) {
+fn set_channel(audio: &mut Audio, channel: ChannelName, field: ChannelField, n: u32)
+    ensures { audio.new ≡ channel_with audio.old channel field n }
+{
     match channel {
         ChannelName::Pulse1 => audio.pulse1.set(field, n),
         ChannelName::Pulse2 => audio.pulse2.set(field, n),
@@ -44,7 +57,10 @@ fn set_channel(audio: &mut Audio, channel: ChannelName, field: ChannelField, n: 
     }
 }
 
-pub fn value(board: &Board, name: BoardValue) -> u32 {
+#[tactic(auto, unfolding(crate::specs::Values::board_value), using(base_shared::proofs::Tests::byte_flag))]
+pub fn value(board: &Board, name: BoardValue) -> u32
+    ensures { result ≡ board_value board.now name }
+{
     match name {
         BoardValue::Entry(addr) => u32::from(entry_for(&board.prg_pages, addr)),
         BoardValue::PictureEntry(addr) => u32::from(entry_for(&board.chr_pages, addr)),
@@ -71,9 +87,14 @@ pub fn value(board: &Board, name: BoardValue) -> u32 {
 }
 
 // A number that is too large for its field is taken by its low bits, and a flag is set by any but 0.
-pub fn set(board: &mut Board, name: BoardValue, n: u32) {
+#[tactic(auto, unfolding(crate::specs::Values::board_with))]
+pub fn set(board: &mut Board, name: BoardValue, n: u32)
+    ensures { board.new ≡ board_with board.old name n }
+{
     match name {
-        BoardValue::Entry(addr) => board.prg_pages[(addr / 1024) as usize] = Page::from(n),
+        BoardValue::Entry(addr) => {
+            board.prg_pages[(addr / 1024 % 64) as usize] = Page::from(n);
+        }
         BoardValue::PictureEntry(addr) => {
             board.chr_pages[(addr / 1024 % 16) as usize] = Page::from(n);
         }

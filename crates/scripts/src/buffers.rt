@@ -35,7 +35,8 @@ impl<const N: usize> Lent<N> {
 
     fn bytes_mut(&mut self) -> &mut [u8] {
         let length = self.length;
-        &mut self.bytes[..length]
+        let bytes = &mut self.bytes;
+        &mut bytes[..][..length]
     }
 
     // Lends so many bytes from here on, if there are as many.

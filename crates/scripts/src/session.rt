@@ -132,8 +132,9 @@ impl Session {
     }
 
     fn call(&mut self, out: &mut Output, line: CallLine) -> Result<(), ScriptError> {
+        let board = self.board()?;
         let call = call_of(line);
-        let stepped = self.buffers.step(self.board()?, call);
+        let stepped = self.buffers.step(board, call);
         let next = stepped.board;
         self.board = Some(next);
         self.told = Told::from(stepped.answer);
