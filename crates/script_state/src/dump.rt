@@ -54,9 +54,17 @@ struct OfBanking(Banking);
 impl Display for OfBanking {
     fn fmt<W: fmt::Write>(&self, f: &mut Formatter<W>) -> fmt::Result {
         let banking = self.0;
-        let revision = if banking.revision_b { Revision::B } else { Revision::A };
+        let revision = if banking.revision_b {
+            Revision::B
+        } else {
+            Revision::A
+        };
         let [prg16, prg8] = banking.prg_banks;
-        write!(f, "DB {revision} {:02x} {prg16:x} {prg8:x}", banking.banking_mode)?;
+        write!(
+            f,
+            "DB {revision} {:02x} {prg16:x} {prg8:x}",
+            banking.banking_mode
+        )?;
         write!(f, "{} {}", Hexadecimal(&banking.chr), banking.mirroring)?;
         write!(f, "{}\n", Hexadecimal(&banking.nt_banks))
     }
@@ -74,7 +82,11 @@ impl Display for OfIrq {
             irq.enabled_after_ack,
             irq.cycle_mode,
         ];
-        write!(f, "DI {} {} {}", irq.reload, irq.counter, irq.prescalar_counter)?;
+        write!(
+            f,
+            "DI {} {} {}",
+            irq.reload, irq.counter, irq.prescalar_counter
+        )?;
         write!(f, "{}\n", Flags(&flags))
     }
 }
@@ -85,8 +97,20 @@ struct OfPulse(Pulse);
 impl Display for OfPulse {
     fn fmt<W: fmt::Write>(&self, f: &mut Formatter<W>) -> fmt::Result {
         let pulse = self.0;
-        write!(f, " / {} {} {}", u8::from(pulse.enabled), pulse.volume, pulse.duty_cycle)?;
-        write!(f, " {} {} {}", u8::from(pulse.ignore_duty), pulse.frequency, pulse.timer)?;
+        write!(
+            f,
+            " / {} {} {}",
+            u8::from(pulse.enabled),
+            pulse.volume,
+            pulse.duty_cycle
+        )?;
+        write!(
+            f,
+            " {} {} {}",
+            u8::from(pulse.ignore_duty),
+            pulse.frequency,
+            pulse.timer
+        )?;
         write!(f, " {} {}", pulse.step, pulse.freq_shift)
     }
 }
@@ -97,8 +121,18 @@ struct OfSaw(Saw);
 impl Display for OfSaw {
     fn fmt<W: fmt::Write>(&self, f: &mut Formatter<W>) -> fmt::Result {
         let saw = self.0;
-        write!(f, " / {} {} {}", u8::from(saw.enabled), saw.accum, saw.accum_rate)?;
-        write!(f, " {} {} {} {}", saw.frequency, saw.timer, saw.step, saw.freq_shift)
+        write!(
+            f,
+            " / {} {} {}",
+            u8::from(saw.enabled),
+            saw.accum,
+            saw.accum_rate
+        )?;
+        write!(
+            f,
+            " {} {} {} {}",
+            saw.frequency, saw.timer, saw.step, saw.freq_shift
+        )
     }
 }
 
@@ -132,6 +166,10 @@ impl Display for Registers<'_> {
             write!(f, " {}", *byte)?;
         }
         write!(f, " {} {}", irq.reload, irq.counter)?;
-        write!(f, "{}\n", Flags(&[irq.enabled, irq.irq_pending, irq.cycle_mode]))
+        write!(
+            f,
+            "{}\n",
+            Flags(&[irq.enabled, irq.irq_pending, irq.cycle_mode])
+        )
     }
 }

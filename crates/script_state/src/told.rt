@@ -203,8 +203,14 @@ pub fn put_refused(out: &mut Output, refusal: u8) {
 // A call's answer: its letter and what it said.
 pub fn put_answer<L: Display + Drop>(out: &mut Output, letter: L, told: Told) {
     match told {
-        Told { refusal: 0, said: None } => put!(out; "{letter}\n"),
-        Told { refusal: 0, said: Some(said) } => put!(out; "{letter} {said}\n"),
+        Told {
+            refusal: 0,
+            said: None,
+        } => put!(out; "{letter}\n"),
+        Told {
+            refusal: 0,
+            said: Some(said),
+        } => put!(out; "{letter} {said}\n"),
         Told { refusal, .. } => put_refused(out, refusal),
     }
 }
