@@ -4,27 +4,42 @@ use cartridge_files::{LONGEST, fail, read_file};
 use cartridge_header::read_header;
 use cartridge_report::answers::Answer;
 use std::alloc::{AllocError, Global};
+use std::fmt;
+use std::fmt::{Display, Formatter};
 use std::io::Error;
 use text_output::{Output, put};
 use text_words::next_word;
 
-// The rows so far, and where they are played and printed.
-#[derive(Drop)]
-struct Player<'a> {
+// How many rows there are, how many of them are answered otherwise, and how many lines are no rows.
+#[derive(Clone, Copy, Default)]
+struct Tally {
     rows: u32,
     wrong: u32,
     bad: u32,
+}
+
+impl Display for Tally {
+    fn fmt<W: fmt::Write>(&self, f: &mut Formatter<W>) -> fmt::Result {
+        let Tally { rows, wrong, bad } = *self;
+        write!(f, "{rows} rows, {wrong} wrong, {bad} bad lines")
+    }
+}
+
+// The rows so far, and where they are played and printed.
+#[derive(Drop)]
+struct Player<'a> {
+    tally: Tally,
     alloc: Global,
     out: &'a mut Output,
 }
 
 impl<'a> Player<'a> {
     fn play_row(&mut self, line: usize, row: &Row) -> Result<(), AllocError> {
-        self.rows = self.rows.saturating_add(1);
+        self.tally.rows = self.tally.rows.saturating_add(1);
         let file = row.file(self.alloc)?;
         let got = read_header(&file);
         if got != row.answer {
-            self.wrong = self.wrong.saturating_add(1);
+            self.tally.wrong = self.tally.wrong.saturating_add(1);
             let expected = Answer(row.answer);
             let got = Answer(got);
             put!(self.out; "WRONG line {line}: expected {expected}, got {got}\n");
@@ -36,7 +51,7 @@ impl<'a> Player<'a> {
         match read_row(text) {
             Ok(row) => self.play_row(line, &row),
             Err(error) => {
-                self.bad = self.bad.saturating_add(1);
+                self.tally.bad = self.tally.bad.saturating_add(1);
                 put!(self.out; "line {line}: {error}\n");
                 Ok(())
             }
@@ -50,15 +65,6 @@ impl<'a> Player<'a> {
             }
         }
         Ok(())
-    }
-
-    // The line that says how many there were.
-    fn tell(&mut self, name: &[u8]) {
-        let rows = self.rows;
-        let wrong = self.wrong;
-        let bad = self.bad;
-        self.out.text(name);
-        put!(self.out; ": {rows} rows, {wrong} wrong, {bad} bad lines\n");
     }
 }
 
@@ -79,14 +85,14 @@ fn play_named(rt: &HostRuntime, name: &[u8], out: &mut Output) -> Result<(), Err
         return Ok(());
     }
     let mut player = Player {
-        rows: 0,
-        wrong: 0,
-        bad: 0,
+        tally: Tally::default(),
         alloc: rt.alloc(),
         out,
     };
     player.play_lines(&text)?;
-    player.tell(name);
+    let tally = player.tally;
+    out.text(name);
+    put!(out; ": {tally}\n");
     Ok(())
 }
 

@@ -1,4 +1,5 @@
-// The words by which sheets and rows of headers name a mirroring and a revision. A capital counts as its small letter.
+// The words by which sheets and rows of headers name a mirroring and a revision. A capital counts as its small letter. Values stand in
+// the order of their words, since `place_in` tells a word's place; a match on the letters would name each of them in both cases.
 #![tactic(auto)]
 
 ghost use Rattle.std.specs.Prelude.{◌≡◌};
