@@ -9,7 +9,7 @@ use lib.Ieee.{Float, of_bits, is_nan}
 use borrow.Author.Rules.{rules}
 use Rattle.base_floats.specs.Wholes.{sum_capped}
 use Rattle.base_floats.proofs.Exact.{has}
-use Rattle.base_floats.proofs.Sums.{float_no_nan, counts}
+use Rattle.base_floats.proofs.Sums.{float_no_nan}
 use Rattle.base_floats.proofs.Guess.{plus_no_nan, capped_no_nan, by_guess}
 use Rattle.base_floats.proofs.is_sum.Goals as goal
 
@@ -25,9 +25,6 @@ has_bits x y e = subst (λ (z : Float). T (not (is_nan z))) (sym e) (capped_no_n
 pub float_to_bits-n : goal.float_to_bits-n
 unfolding of_bits
 float_to_bits-n c = plus_no_nan _ false 1 (pos 23) (has_bits _ _ c.capped-y.ensures)
-
-pub int_to_float-whole : goal.int_to_float-whole
-int_to_float-whole c = counts _ (low _)
 
 pub float_to_bits-result : goal.float_to_bits-result
 float_to_bits-result c = float_no_nan _ _ (has _ (low_24 _))
