@@ -13,7 +13,8 @@ use base_shared::Refusal;
 use memory_layout::MemoryLayout;
 use memory_pages::Page;
 
-// The byte at a place counted from the fixed buffer on into the changing one.
+// The byte at a place counted from the fixed buffer on into the changing one. `view` takes such a place apart by `checked_sub` too:
+// a function that both call would be that call.
 fn byte_at(fixed: &[u8], changing: &[u8], at: usize) -> u8
     requires { at < length fixed.now + length changing.now }
     ensures { result ≡ get_or (fixed.now ++ changing.now) at 0 }

@@ -41,7 +41,7 @@ fn bank_base(region: Region, size: u32, bank: i32) -> u32
     rem_euclid(bank, bank_count(region, size)) * size
 }
 
-// A page in each entry, one behind the other.
+// A page in each entry, one behind the other: an entry's number says how many pages on its page lies.
 fn follow(window: &mut [Page], first: Page)
     requires { (offset first + 1024 * length window.old < 2 ^ 30) × (length window.old ≤ 16) }
     ensures { window.new ≡ tabulate (length window.old) (pages_on first) }
