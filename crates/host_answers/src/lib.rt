@@ -89,7 +89,8 @@ impl From<Result<Option<u32>, Refusal>> for EncodedForecast {
     }
 }
 
-// The place of a picture entry, with the buffer told apart.
+// The place of a picture entry, with the buffer told apart. `checked_sub` is that test by itself: none where the place lies in the fixed buffer,
+// and otherwise how far it lies in the changing one.
 pub fn page_at(board: &Board, fixed: &[u8], changing: &[u8], addr: u16) -> PageAt
     ensures { result ≡ page_at (held_by board.now fixed.now changing.now) addr }
 {

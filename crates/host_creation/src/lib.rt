@@ -52,6 +52,7 @@ impl TryFrom<NumberedSettings> for Settings {
 }
 
 // Create refuses a number that names nothing by 3, after conditions 1 and 2.
+#[tactic(auto, using(crate::proofs::Numbers::named))]
 pub fn create_numbered(
     layout: MemoryLayout,
     settings: NumberedSettings,
