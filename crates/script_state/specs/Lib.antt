@@ -1,2 +1,4 @@
 pub mod Channels
+pub mod Laws
+pub mod Told
 pub mod Values

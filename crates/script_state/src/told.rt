@@ -1,4 +1,7 @@
 // What a call answered, and the line that shows it.
+ghost use Rattle.std.specs.Prelude.{◌≡◌, Some};
+ghost use Rattle.script_state.specs.Told.{LevelNumbered, clocks_text, level_text, said_text};
+
 use audio::Level;
 use base_floats::pattern::bits_of;
 use base_shared::Refusal;
@@ -54,6 +57,8 @@ pub struct UnknownLevel(pub u32);
 impl TryFrom<u32> for LevelName {
     type Error = UnknownLevel;
 
+    ghost try_from_gives = { LevelNumbered };
+
     fn try_from(number: u32) -> Result<LevelName, UnknownLevel> {
         match number {
             1 => Ok(LevelName::Silent),
@@ -65,6 +70,8 @@ impl TryFrom<u32> for LevelName {
 }
 
 impl Display for LevelName {
+    ghost output = { λ name. Some (level_text name) };
+
     fn fmt<W: fmt::Write>(&self, f: &mut Formatter<W>) -> fmt::Result {
         f.write_str(match self {
             LevelName::Silent => "Silent",
@@ -174,6 +181,9 @@ impl From<Answer> for Told {
 
 // The counts and the hash; a clock that there is not is 0.
 impl Display for Clocks {
+    ghost output = { λ clocks. Some (clocks_text clocks) };
+
+    #[tactic(auto, using(base_shared::proofs::Tests::byte_flag))]
     fn fmt<W: fmt::Write>(&self, f: &mut Formatter<W>) -> fmt::Result {
         let first = self.first.unwrap_or(0);
         let last = self.last.unwrap_or(0);
@@ -184,6 +194,8 @@ impl Display for Clocks {
 
 // Behind the letter of the call.
 impl Display for Said {
+    ghost output = { λ said. Some (said_text said) };
+
     fn fmt<W: fmt::Write>(&self, f: &mut Formatter<W>) -> fmt::Result {
         match self {
             Said::Byte(byte) => write!(f, "{:02x}", *byte),
