@@ -24,6 +24,7 @@ of_flag (suc zero) h = refl
 of_flag (suc (suc n)) h = absurd (omega arith)
 
 of_sum : (n : ℕ) → n < 2 → to_bits binary32 (of_bits binary32 n) ≡ n
+unfolding to_bits of_bits
 of_sum zero h = refl
 of_sum (suc zero) h = refl
 of_sum (suc (suc n)) h = absurd (omega arith)

@@ -1,5 +1,5 @@
 -- What a call answered, as a script's answers show it (oracle/FORMAT.md). Assumes nothing.
-use Rattle.std.specs.Prelude.{◌≡◌, List, [], ◌∷◌, ◌++◌, ℕ, ◌^◌, ◌-◌, false, Option, Some, None, Result, MatchResult, unwrap_or, ◌≢◌}
+use Rattle.std.specs.Prelude.{◌≡◌, List, [], ◌++◌, ℕ, ◌^◌, ◌-◌, false, Some, None, Result, MatchResult, unwrap_or, ◌≢◌}
 use Rattle.std.specs.Fmt.{decimal, digits, format_spec, padded_integral}
 use Rattle.base_shared.specs.Rows.{flag}
 use Rattle.text_words.specs.Names.{codes}

@@ -1,5 +1,5 @@
 -- The values of a board by their names, as numbers (oracle/FORMAT.md). Assumes nothing.
-use Rattle.std.specs.Prelude.{◌≡◌, ℕ, ◌/◌, ◌%◌, get_or, set}
+use Rattle.std.specs.Prelude.{ℕ, ◌/◌, ◌%◌, get_or, set}
 use Rattle.std.specs.Float.{binary32}
 use Rattle.std.specs.Float.Ieee.{of_bits, to_bits}
 use Rattle.base_shared.specs.Rows.{flag}
@@ -90,22 +90,3 @@ board_with b BoardValue.Cycle n = record b { irq = record b.irq { cycle_mode = s
 board_with b BoardValue.Halt n = record b { audio = record b.audio { halt = set_by n } }
 board_with b BoardValue.Sum n = record b { audio = record b.audio { out = of_bits binary32 n } }
 board_with b BoardValue.OpenBus n = record b { open_bus = set_by n }
-
--- ---- the same values
--- two sounds have the same values; a sum is known by its bits
-pub record SameAudio (a b : Audio) : Type 0 where
-  pub pulse1 : a.pulse1 ≡ b.pulse1
-  pub pulse2 : a.pulse2 ≡ b.pulse2
-  pub saw : a.saw ≡ b.saw
-  pub halt : a.halt ≡ b.halt
-  pub sum : to_bits binary32 a.out ≡ to_bits binary32 b.out
-
--- two boards have them
-pub record SameBoard (a b : Board) : Type 0 where
-  pub layout : a.layout ≡ b.layout
-  pub prg_pages : a.prg_pages ≡ b.prg_pages
-  pub chr_pages : a.chr_pages ≡ b.chr_pages
-  pub banking : a.banking ≡ b.banking
-  pub irq : a.irq ≡ b.irq
-  pub audio : SameAudio a.audio b.audio
-  pub open_bus : a.open_bus ≡ b.open_bus

@@ -1,6 +1,6 @@
 // The values of a board by their names, as numbers. Registers are counted from the first again behind the last.
-ghost use Rattle.std.specs.Prelude.{◌≡◌, ◌↔◌, IsTrue};
-ghost use Rattle.script_state.specs.Values.{SameAudio, SameBoard, board_value, board_with, channel_value, channel_with, layout_value, layout_with};
+ghost use Rattle.std.specs.Prelude.{◌≡◌};
+ghost use Rattle.script_state.specs.Values.{board_value, board_with, channel_value, channel_with, layout_value, layout_with};
 
 use crate::channels::{Channel, byte, half};
 use audio::Audio;
@@ -120,9 +120,7 @@ pub fn set(board: &mut Board, name: BoardValue, n: u32)
 }
 
 // A sum is compared by its bits, which a derived `==` would not do.
-fn same_audio(one: &Audio, other: &Audio) -> bool
-    ensures { IsTrue result ↔ SameAudio one.now other.now }
-{
+fn same_audio(one: &Audio, other: &Audio) -> bool {
     (one.pulse1 == other.pulse1)
         & (one.pulse2 == other.pulse2)
         & (one.saw == other.saw)
@@ -131,9 +129,7 @@ fn same_audio(one: &Audio, other: &Audio) -> bool
 }
 
 // Whether two boards have the same values.
-pub fn same(one: &Board, other: &Board) -> bool
-    ensures { IsTrue result ↔ SameBoard one.now other.now }
-{
+pub fn same(one: &Board, other: &Board) -> bool {
     (one.layout == other.layout)
         & (one.prg_pages == other.prg_pages)
         & (one.chr_pages == other.chr_pages)

@@ -49,10 +49,9 @@ fn put_heading(out: &mut Output, line: &[u8]) {
 }
 
 fn byte_at(bytes: &[u8], at: u32, behind: u32) -> u32 {
-    match bytes.get(at as usize) {
-        Some(byte) => u32::from(*byte),
-        None => behind,
-    }
+    bytes
+        .get(at as usize)
+        .map_or(behind, |byte| u32::from(*byte))
 }
 
 impl Session {
