@@ -62,3 +62,28 @@ pub fn fail(stderr: Stderr, name: &[u8], error: Error) {
         let _ = stderr.write_all(part);
     }
 }
+
+#[cfg(test)]
+mod tests {
+    use super::{read_file, read_first};
+    use std::test::Fail;
+
+    // No contract says that there is memory for what is read.
+    #[test]
+    fn reads_the_first_bytes(rt: HostRuntime) -> Result<(), Fail> {
+        let some = read_first(rt.alloc(), b"story".as_slice(), 3)?;
+        assert_eq!(rt; some.as_slice(), b"sto".as_slice());
+        let all = read_first(rt.alloc(), b"story".as_slice(), 9)?;
+        assert_eq!(rt; all.as_slice(), b"story".as_slice());
+        Ok(())
+    }
+
+    // The file that this test runs from.
+    #[test]
+    fn reads_a_file(rt: HostRuntime) -> Result<(), Fail> {
+        let bytes = read_file(&rt, b"/proc/self/exe")?;
+        assert!(rt; bytes.as_slice().starts_with(b"\x7fELF"));
+        assert!(rt; read_file(&rt, b"").is_err());
+        Ok(())
+    }
+}

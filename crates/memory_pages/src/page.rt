@@ -33,6 +33,7 @@ impl Page {
         self.0 % 0x4000_0000
     }
 
+    // One line, like the test below: base_shared's `bit` takes a byte.
     pub fn is_writable(self) -> bool
         ensures { result ≡ writable self }
     {

@@ -73,7 +73,7 @@ fn lines(revision_b: bool, addr: u16) -> u16
     }
 }
 
-// The three registers that pulses and the saw have alike.
+// The three registers that pulses and the saw have alike. No TryFrom: line 3 has another register in each of the three rows.
 fn channel_register(line: u16) -> ChannelRegister
     ensures { result ≡ channel_register line }
 {

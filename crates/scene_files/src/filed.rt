@@ -19,7 +19,8 @@ use text_words::number::{NumberError, in_base};
 use vrc6_banking::banking::{Mirroring, Revision};
 use vrc6_words::{mirroring_of, revision_of};
 
-// Stands for empty cells where there is no file: layout S of document 01, revision A, vertical mirroring.
+// Stands for empty cells where there is no file: layout S of document 01, revision A, vertical mirroring. A script's line S says that
+// layout too (script_lines): two papers' defaults, which need not stay alike.
 pub fn unfiled() -> Cartridge
     ensures { result ≡ unfiled }
 {
