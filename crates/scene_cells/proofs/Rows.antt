@@ -1,4 +1,4 @@
--- The names of columns, and the examples, computed. Assumes nothing.
+-- The names of columns, and the examples, computed. Each is an equation of its own, so no lemma serves two. Assumes nothing.
 use mathlib.Core.Path.{refl}
 use Rattle.text_words.specs.Names.{place_in}
 use Rattle.scene_cells.specs.declared.columns.Column.TheVariants.{Scene, Prg, Chr, Revision, Mirroring, Writes, Window, Letters, Menu, File, At, Interrupts}

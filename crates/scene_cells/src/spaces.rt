@@ -2,7 +2,8 @@
 ghost use Rattle.std.specs.Prelude.{◌≡◌};
 ghost use Rattle.scene_cells.specs.Spaces.{with_spaces};
 
-// Puts two spaces for each no-break space, so that it counts as a blank.
+// Puts two spaces for each no-break space, so that it counts as a blank. It goes by places: two bytes that overlap with the next two are
+// lent to be written by no iterator.
 pub fn blank_spaces(text: &mut [u8])
     ensures { text.new ≡ with_spaces text.old }
 {

@@ -1,4 +1,4 @@
--- The examples, computed. Assumes nothing.
+-- The examples, computed. Each is an equation of its own, so no lemma serves two. Assumes nothing.
 use mathlib.Core.Path.{refl}
 use Rattle.text_words.specs.Numbers.{number_of}
 use Rattle.scene_steps.specs.Letters.{pair_of}

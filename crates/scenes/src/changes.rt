@@ -80,12 +80,7 @@ impl Scene {
 
 impl Played<'_> {
     // A latch so many lines nearer or farther, if it puts the interrupt on the line asked: the writes are played with it.
-    fn tell_other_latch(
-        self,
-        out: &mut Output,
-        line: u32,
-        asked: u32,
-    ) -> Result<(), Unplayed> {
+    fn tell_other_latch(self, out: &mut Output, line: u32, asked: u32) -> Result<(), Unplayed> {
         let latch = (line
             .wrapping_sub(asked)
             .wrapping_add(u32::from(self.ended.written.irq.reload))

@@ -107,7 +107,7 @@ impl<'a> Header<'a> {
     pub(crate) fn read(text: &'a [u8], out: &mut Output) -> Result<Header<'a>, SheetFault> {
         let mut header = Header::begin(text);
         let mut good = Ok(());
-        for (place, cell) in Cells::new(header.row, header.separator).enumerate() {
+        for (place, cell) in (0..usize::MAX).zip(Cells::new(header.row, header.separator)) {
             good = header.check(out, place, cell).and(good);
             header.rest = cell.rest;
         }

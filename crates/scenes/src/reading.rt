@@ -84,8 +84,11 @@ impl Reader<'_> {
 
     // Where the writes end.
     fn at(self, out: &mut Output) -> Result<Option<At>, Told> {
-        at_in(self.row.below.bytes(Column::At))
-            .map_err(|error| self.tell(out, Column::At, WordFault::Place(error)))
+        at_in(self.row.below.bytes(Column::At)).map_err(|error| self.tell(
+            out,
+            Column::At,
+            WordFault::Place(error),
+        ))
     }
 }
 
