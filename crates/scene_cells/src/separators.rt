@@ -23,8 +23,8 @@ fn named_in(row: &[u8], separator: u8) -> usize
         .count()
 }
 
-// Comma, semicolon or tab: the one by which the header names the most columns, the first of those that name as many. Each count has
-// its name here, as `max_by_key` takes the last of those that name as many.
+// Comma, semicolon or tab: the one by which the header names the most columns, the first of those that name as many. `max_by_key`
+// is no plainer: it takes the last of equals, so the three would stand backwards, and it has an answer for none.
 pub fn separator_in(header: &[u8]) -> u8
     ensures { result ≡ separator_of header.now }
 {

@@ -10,12 +10,14 @@ use Rattle.vrc6_slots.specs.declared.Mirroring.{Mirroring}
 use Rattle.vrc6_slots.specs.declared.Mirroring.TheVariants.{Vertical, Horizontal, SingleScreenA, SingleScreenB, FourScreen}
 use Rattle.vrc6_banking.specs.declared.banking.Revision.{Revision}
 use Rattle.vrc6_banking.specs.declared.banking.Revision.TheVariants.{A, B}
+use Rattle.scene_cells.specs.declared.choices.Interrupts.{Interrupts}
+use Rattle.scene_cells.specs.declared.choices.Interrupts.TheVariants.{Masked, Open}
 use Rattle.scene_files.specs.declared.singles.Said.TheVariants.{File}
 use Rattle.scene_files.specs.declared.singles.SingleError.{SingleError}
 use Rattle.scene_files.specs.declared.singles.SingleError.TheVariants.{ManyWords, NotTheFile}
 use Rattle.scene_files.specs.Laws.{Agreed, AgreedLaw, FileExamples}
 use Rattle.scene_files.specs.Singles.{compared}
-use Rattle.scene_files.specs.Words.{same_mirroring, same_revision}
+use Rattle.scene_files.specs.Words.{same_interrupts, same_mirroring, same_revision}
 
 module _ {T : Type 0} (same : T → T → Bool) (equal : (a b : T) → same a b ≡ true → a ≡ b) where
   -- a value beside the file's is the file's
@@ -83,8 +85,20 @@ equal_mirrorings FourScreen SingleScreenA h = absurd (cc)
 equal_mirrorings FourScreen SingleScreenB h = absurd (cc)
 equal_mirrorings FourScreen FourScreen h = refl
 
+equal_choices : (a b : Interrupts) → same_interrupts a b ≡ true → a ≡ b
+equal_choices Masked Masked h = refl
+equal_choices Masked Open h = absurd (cc)
+equal_choices Open Masked h = absurd (cc)
+equal_choices Open Open h = refl
+
 pub agreed_law : AgreedLaw
-agreed_law = record { number = agreed _ eqb-true; revision = agreed _ equal_revisions; mirroring = agreed _ equal_mirrorings }
+agreed_law =
+    record {
+      number = agreed _ eqb-true;
+      revision = agreed _ equal_revisions;
+      mirroring = agreed _ equal_mirrorings;
+      interrupts = agreed _ equal_choices;
+    }
 
 pub examples : FileExamples
 unfolding place_in number_of

@@ -14,11 +14,12 @@ abbrev pub Agreed : {T : Type 0} → (same : T → T → Bool) → Type 0
 Agreed {T} same =
     (reads : List ℕ → Result T NumberError) (said value : T) (cell : List ℕ) → single_of same reads (File said) cell ≡ Ok value → value ≡ said
 
--- a length, a revision and a mirroring, which a file says
+-- every value that a cell of one word says: a length or a line, a revision, a mirroring, and a choice of interrupts
 pub record AgreedLaw : Type 0 where
   pub number : Agreed nat_eq
   pub revision : Agreed same_revision
   pub mirroring : Agreed same_mirroring
+  pub interrupts : Agreed same_interrupts
 
 -- cells, beside a file and without one (docs/SCENES.md)
 pub record FileExamples : Type 0 where

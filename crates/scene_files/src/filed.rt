@@ -51,6 +51,7 @@ fn window_word(word: &[u8]) -> Result<Option<u32>, NumberError>
     in_base(word, 10, 1000000).map(Some)
 }
 
+// The three are named, since each states its definition to `single`.
 fn revision_word(word: &[u8]) -> Result<Revision, NumberError>
     ensures { result ≡ revision_word word.now }
 {

@@ -60,7 +60,7 @@ fn compared<T: Copy + PartialEq>(
 }
 
 // What a cell says whose words are read so.
-pub fn single_of<T: Copy + PartialEq, F: Fn(&[u8]) -> Result<T, NumberError>>(
+pub(crate) fn single_of<T: Copy + PartialEq, F: Fn(&[u8]) -> Result<T, NumberError>>(
     cell: &[u8],
     said: Said<T>,
     read: F,

@@ -34,7 +34,7 @@ impl Screen {
         }
     }
 
-    // Where the writes end by the cell `at`. Without it lines count from 0.
+    // Where the writes end by the cell `at`. Without it lines count from 0. `At` holds any u32s, and u16s would ask more of callers.
     pub fn at(at: Option<At>, prescaler: u16) -> Screen
         ensures { result ≡ screen_at at prescaler }
     {

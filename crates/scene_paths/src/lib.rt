@@ -10,7 +10,8 @@ use arrayvec::ArrayVec;
 use scene_cells::quotes::Unquoted;
 use text_words::{from_first, is_blank};
 
-// A text up to its last byte that a test takes, with it. A loop, since nothing is proved yet of what `rposition` finds.
+// A text up to its last byte that a test takes, with it. A loop: `rposition` was tried, and the
+// search closes neither return.
 #[tactic(auto, using(crate::proofs::Ends::kept, crate::proofs::Ends::left_out))]
 fn up_to<F: Fn(u8) -> bool>(text: &[u8], takes: F) -> &[u8]
     ghost test: { ℕ → Bool }

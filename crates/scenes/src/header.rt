@@ -107,6 +107,7 @@ impl<'a> Header<'a> {
     pub(crate) fn read(text: &'a [u8], out: &mut Output) -> Result<Header<'a>, SheetFault> {
         let mut header = Header::begin(text);
         let mut good = Ok(());
+        // `enumerate` was tried: it leaves the goal that the cells' number fits a usize.
         for (place, cell) in (0..usize::MAX).zip(Cells::new(header.row, header.separator)) {
             good = header.check(out, place, cell).and(good);
             header.rest = cell.rest;

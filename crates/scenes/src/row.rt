@@ -18,7 +18,8 @@ pub struct Row<'a> {
     pub number: u32,
 }
 
-// Where a row's cells that are not blank stand: of two the later here counts.
+// Where a row's cells that are not blank stand: of two the later here counts. `Nowhere` is the least of this order, so that one `match`
+// tells a row's fault.
 #[derive(Clone, Copy, PartialEq, Eq, PartialOrd, Ord)]
 pub enum Filled {
     // There are none.
