@@ -32,7 +32,7 @@ fn accumulated(step: u8, accum: u8, rate: u8) -> u8
     if step == 0 {
         0
     } else if step % 2 == 0 {
-        std::num::wrapping_add_u8(accum, rate)
+        accum.wrapping_add(rate)
     } else {
         accum
     }

@@ -9,14 +9,14 @@ ghost use Rattle.audio_shared.specs.Channels.{high_bits, low_byte, period_of};
 pub fn low_byte(frequency: u16, val: u8) -> u16
     ensures { result ≡ low_byte frequency val }
 {
-    frequency / 256 % 16 * 256 + (val as u16)
+    frequency / 256 % 16 * 256 + u16::from(val)
 }
 
 // The frequency with other high bits, of which there are four.
 pub fn high_bits(frequency: u16, val: u8) -> u16
     ensures { result ≡ high_bits frequency val }
 {
-    (val as u16) % 16 * 256 + frequency % 256
+    u16::from(val) % 16 * 256 + frequency % 256
 }
 
 // What a timer that runs out starts again from: the frequency, shifted right, and 1.

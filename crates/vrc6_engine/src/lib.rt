@@ -18,7 +18,7 @@ pub struct Engine {
     pub audio: Audio,
 }
 
-// Interrupt and sound after a clock, and whether it ticked.
+// Interrupt and sound after a clock, and whether it ticked; irq's answer has the counter alone, by its own name.
 #[derive(Clone, Copy)]
 pub struct EngineClocked {
     pub engine: Engine,

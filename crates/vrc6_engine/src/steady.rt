@@ -17,7 +17,7 @@ fn counted(timer: u16, enabled: bool) -> u16
     ensures { 1 ≤ timer → result ≡ (if enabled then timer - 1 else timer) }
 {
     if enabled {
-        std::num::wrapping_sub_u16(timer, 1)
+        timer.wrapping_sub(1)
     } else {
         timer
     }

@@ -1,4 +1,4 @@
-// The bits of the banking mode that are tested by themselves.
+// The bits of the banking mode that are tested by themselves. Each test names its bit, so a line each.
 ghost use Rattle.std.specs.Prelude.{◌≡◌};
 ghost use Rattle.base_shared.specs.Bits.{bit};
 
