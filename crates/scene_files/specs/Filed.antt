@@ -11,7 +11,7 @@ use Rattle.scene_files.specs.declared.singles.Said.{Said}
 use Rattle.scene_files.specs.declared.singles.Said.TheVariants.{File, Default}
 use Rattle.scene_files.specs.declared.singles.SingleError.{SingleError}
 
--- what stands for empty cells where there is no file: layout S of document 01, revision A, vertical mirroring
+-- what stands for empty cells where there is no file: the layout of 128 KiB each, revision A, vertical mirroring (docs/SCENES.md)
 abbrev pub unfiled : Cartridge
 unfiled = record {
   layout = record { prg_rom = 131_072; chr = 131_072; chr_writable = false; prg_ram = 8_192; ciram = 2_048 };

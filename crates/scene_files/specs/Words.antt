@@ -38,12 +38,14 @@ mirroring_word word = ok_or (mirroring_of word) NoNumber
 abbrev pub interrupts_word : List ℕ → Result Interrupts NumberError
 interrupts_word word = ok_or (interrupts_of word) NoNumber
 
--- two values are equal, as their `==` says
+-- two revisions are equal, as their `==` says
 abbrev pub same_revision : (a b : Revision) → Bool
 same_revision = (revision.ghosts).eq
 
+-- two mirrorings, likewise
 abbrev pub same_mirroring : (a b : Mirroring) → Bool
 same_mirroring = (mirroring.ghosts).eq
 
+-- whether interrupts are left open, likewise
 abbrev pub same_interrupts : (a b : Interrupts) → Bool
 same_interrupts = (interrupts.ghosts).eq
