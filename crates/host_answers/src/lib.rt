@@ -11,7 +11,7 @@ use vrc6::Board;
 
 // The level; its name, 0 silent, 1 held, 2 playing; the refusal's number. Refused, level and name are 0.
 #[repr(C)]
-#[derive(Clone, Copy)]
+#[derive(Clone, Copy, Default)]
 pub struct EncodedLevel {
     pub level: f32,
     pub name: u8,
@@ -20,7 +20,7 @@ pub struct EncodedLevel {
 
 // The clocks until the interrupt, 0 where the counter is not armed or the call is refused.
 #[repr(C)]
-#[derive(Clone, Copy, Debug, PartialEq, Eq)]
+#[derive(Clone, Copy, Debug, Default, PartialEq, Eq)]
 pub struct EncodedForecast {
     pub clocks: u32,
     pub armed: bool,
@@ -29,7 +29,7 @@ pub struct EncodedForecast {
 
 // A page is the 1,024 bytes from offset of the fixed buffer, or of the changing one. Refused, offset is 0.
 #[repr(C)]
-#[derive(Clone, Copy, Debug, PartialEq, Eq)]
+#[derive(Clone, Copy, Debug, Default, PartialEq, Eq)]
 pub struct PageAt {
     pub offset: u32,
     pub changing: bool,
@@ -43,23 +43,21 @@ impl From<Level> for EncodedLevel {
         match level {
             Level::Silent(level) => EncodedLevel {
                 level,
-                name: 0,
-                refusal: 0,
+                ..EncodedLevel::default()
             },
             Level::Held(level) => EncodedLevel {
                 level,
                 name: 1,
-                refusal: 0,
+                ..EncodedLevel::default()
             },
             Level::Playing(level) => EncodedLevel {
                 level,
                 name: 2,
-                refusal: 0,
+                ..EncodedLevel::default()
             },
             Level::Refused(refusal) => EncodedLevel {
-                level: 0.0,
-                name: 0,
                 refusal: u8::from(refusal),
+                ..EncodedLevel::default()
             },
         }
     }
@@ -70,20 +68,15 @@ impl From<Result<Option<u32>, Refusal>> for EncodedForecast {
 
     fn from(forecast: Result<Option<u32>, Refusal>) -> EncodedForecast {
         match forecast {
-            Ok(None) => EncodedForecast {
-                clocks: 0,
-                armed: false,
-                refusal: 0,
-            },
+            Ok(None) => EncodedForecast::default(),
             Ok(Some(clocks)) => EncodedForecast {
                 clocks,
                 armed: true,
-                refusal: 0,
+                ..EncodedForecast::default()
             },
             Err(refusal) => EncodedForecast {
-                clocks: 0,
-                armed: false,
                 refusal: u8::from(refusal),
+                ..EncodedForecast::default()
             },
         }
     }
@@ -97,22 +90,20 @@ pub fn page_at(board: &Board, fixed: &[u8], changing: &[u8], addr: u16) -> PageA
     let access = board.picture_access(addr);
     if let Err(refusal) = access.check(fixed.len(), changing.len()) {
         return PageAt {
-            offset: 0,
-            changing: false,
             refusal: u8::from(refusal),
+            ..PageAt::default()
         };
     }
     let offset = access.page.offset();
     match (offset as usize).checked_sub(fixed.len()) {
         None => PageAt {
             offset,
-            changing: false,
-            refusal: 0,
+            ..PageAt::default()
         },
         Some(rest) => PageAt {
             offset: rest as u32,
             changing: true,
-            refusal: 0,
+            ..PageAt::default()
         },
     }
 }

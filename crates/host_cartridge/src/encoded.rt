@@ -11,7 +11,7 @@ use memory_layout::MemoryLayout;
 
 // The cartridge with mirroring 0 to 4 and revision 0 for A and 1 for B, as C reads them. Refused, all is 0 but the number.
 #[repr(C)]
-#[derive(Clone, Copy, Debug, PartialEq, Eq)]
+#[derive(Clone, Copy, Debug, Default, PartialEq, Eq)]
 pub struct EncodedCartridge {
     pub layout: MemoryLayout,
     pub mirroring: u8,
@@ -41,12 +41,8 @@ impl From<Refusal> for EncodedCartridge {
 
     fn from(refusal: Refusal) -> EncodedCartridge {
         EncodedCartridge {
-            layout: MemoryLayout::default(),
-            mirroring: 0,
-            revision: 0,
-            prg_start: 0,
-            chr_start: 0,
             refusal: u8::from(refusal),
+            ..EncodedCartridge::default()
         }
     }
 }

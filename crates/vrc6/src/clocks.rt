@@ -7,7 +7,7 @@ ghost use Rattle.vrc6.specs.Calls.{clock, forecast, level, reset};
 ghost use Rattle.vrc6.specs.Checks.{engine_refusal};
 
 use crate::board::{Board, Changed, Clocked, Forecasted, Leveled, ResetKind};
-use base_shared::Refusal;
+use base_shared::{Refusal, answer_number};
 use vrc6_engine::Engine;
 
 impl Board {
@@ -49,10 +49,7 @@ impl Board {
         Clocked {
             board: self,
             ticked: answer.unwrap_or(false),
-            refusal: match answer {
-                Ok(_) => 0,
-                Err(refusal) => u8::from(refusal),
-            },
+            refusal: answer_number(answer.map(|_| ())),
         }
     }
 

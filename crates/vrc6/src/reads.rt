@@ -13,7 +13,8 @@ use memory_access::{Access, Peeked, byte_shown};
 use memory_tables::entry_for;
 
 impl Board {
-    // What a CPU address accesses, its entry read where it lies in the table.
+    // What a CPU address accesses, its entry read where it lies in the table. This and the next have `entry_for` in common, and the table is
+    // all in which they differ.
     pub fn cpu_access(&self, addr: u16) -> Access
         ensures { result ≡ access_of cpu self.now addr }
     {
@@ -59,6 +60,7 @@ impl Board {
         self.picture_access(addr).peek(fixed, changing, addr)
     }
 
+    // The calls by value are two lines each: what the lent one answers, and the board beside it.
     pub fn cpu_read(self, fixed: &[u8], changing: &[u8], addr: u16, bus: u8) -> ByteRead
         ensures { result ≡ byte_read (by_cpu bus) (held_by self fixed.now changing.now) addr }
     {

@@ -72,6 +72,7 @@ impl Board {
         Ok(())
     }
 
+    // The calls by value are two lines each, as the reads are.
     pub fn cpu_write(mut self, fixed: &[u8], changing: &mut [u8], addr: u16, val: u8) -> Changed
         ensures { (result ≡ cpu_write (held_by self fixed.now changing.old) addr val)
             × (changing.new ≡ (cpu_write_left (held_by self fixed.now changing.old) addr val).changing) }
