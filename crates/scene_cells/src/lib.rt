@@ -15,6 +15,7 @@ ghost use Rattle.scene_cells.specs.Cells.{behind_break, cell_of, closed_to, ends
 ghost use Rattle.scene_cells.specs.Contents.{content};
 
 use crate::quotes::Unquoted;
+use text_words::length_before;
 
 // What is wrong with a cell.
 #[derive(Clone, Copy, PartialEq, Eq, Debug)]
@@ -49,14 +50,15 @@ impl<'a> Cell<'a> {
     }
 }
 
+// From here up to `Cells::new` a text and its separator go side by side, in no struct: the text gets shorter from call to call and the
+// separator stays, so each call would make the struct anew.
+
 // How many bytes of a text stand before its first separator or line end.
 fn before_break(text: &[u8], separator: u8) -> usize
     ensures bound { result ≤ length text.now }
     ensures cut { drop result text.now ≡ from_break separator text.now }
 {
-    text.iter()
-        .position(|b| (*b == separator) | ((*b == b'\n') | (*b == b'\r')))
-        .unwrap_or(text.len())
+    length_before(text, |b| (b == separator) | ((b == b'\n') | (b == b'\r')))
 }
 
 // A text from the quote on that closes a cell; nothing where none does. A doubled quote is passed.

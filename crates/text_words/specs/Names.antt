@@ -1,5 +1,6 @@
 -- Names: the words of a text, and which of them a word is, where a capital counts as its small letter. Assumes nothing.
-use Rattle.std.specs.Prelude.{Bool, true, false, cond, ◌&&◌, List, [], ◌∷◌, ℕ, zero, suc, ◌+◌, eqb, length, Option, option_and_then, position, slice_get}
+use Rattle.std.specs.Prelude.{Bool, true, false, cond, ◌&&◌, List, [], ◌∷◌, ℕ, zero, suc, ◌+◌, eqb, length, Option, option_and_then, option_map, position, slice_get}
+use Rattle.std.specs.List.{find}
 use Prim.Native.Char.{code}
 use Prim.Native.String.{String, [] as empty, ◌∷◌ as ◌before◌}
 use Rattle.text_words.specs.Numbers.{between}
@@ -33,6 +34,10 @@ same_name (x ∷ xs) (y ∷ ys) = eqb (small x) (small y) && same_name xs ys
 -- the place of a name among the words of a text, from 0; none where it is none of them
 unfoldable pub place_in : (names name : List ℕ) → Option ℕ
 place_in names name = position (same_name name) (words_of names)
+
+-- what a name stands for, by a table of names
+abbrev pub named : {A : Type 0} → List (List ℕ × A) → List ℕ → Option A
+named table word = option_map (λ entry. entry.1) (find (λ entry. same_name entry.0 word) table)
 
 -- the n-th word of a text, from 0; none where there are fewer
 unfoldable pub nth_word : (n : ℕ) → List ℕ → Option (List ℕ)

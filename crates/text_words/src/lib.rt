@@ -4,9 +4,9 @@
 pub mod names;
 pub mod number;
 
-ghost use Rattle.std.specs.Prelude.{◌≡◌, ◌≤◌, true, drop, length, MatchOption, option_map};
+ghost use Rattle.std.specs.Prelude.{◌≡◌, ◌≤◌, ℕ, Bool, true, drop, length, MatchOption, option_map};
 ghost use Rattle.text_words.specs.Found.{Found};
-ghost use Rattle.text_words.specs.Words.{from_first, is_blank, is_empty, only_word};
+ghost use Rattle.text_words.specs.Words.{from_first, from_taken, is_blank, is_empty, only_word};
 
 // A word of a text, and the text behind it.
 #[derive(Clone, Copy)]
@@ -22,14 +22,23 @@ pub fn is_blank(byte: u8) -> bool
     (byte == b' ') | ((9 <= byte) & (byte <= 13))
 }
 
+// How many bytes of a text stand before the first that a test takes; all where it takes none.
+pub fn length_before<F: Fn(u8) -> bool>(text: &[u8], takes: F) -> usize
+    ghost test: { ℕ → Bool }
+    requires callable { F.IsAlwaysCallable takes }
+    requires tests { (b : ℕ) (r : Bool) → F.post takes b r → r ≡ test b }
+    ensures bound { result ≤ length text.now }
+    ensures cut { drop result text.now ≡ from_taken test text.now }
+{
+    text.iter().position(|b| takes(*b)).unwrap_or(text.len())
+}
+
 // How many bytes of a text stand before its first blank, or before its first byte that is none.
 fn before_first(text: &[u8], blank: bool) -> usize
     ensures bound { result ≤ length text.now }
     ensures cut { drop result text.now ≡ from_first blank text.now }
 {
-    text.iter()
-        .position(|b| is_blank(*b) == blank)
-        .unwrap_or(text.len())
+    length_before(text, |b| is_blank(b) == blank)
 }
 
 // A text from its first blank on, or from its first byte on that is none.

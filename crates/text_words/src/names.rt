@@ -1,7 +1,7 @@
 // Names: which of the words of a text a word is. A capital counts as its small letter.
-ghost use Rattle.std.specs.Prelude.{◌≡◌, ◌≤◌, length, IfSome, ◌<◌, option_map};
+ghost use Rattle.std.specs.Prelude.{◌≡◌, ◌≤◌, length, map, IfSome, ◌<◌, option_map};
 ghost use Rattle.std.specs.Iterator.{YieldsFirstRef, item_count};
-ghost use Rattle.text_words.specs.Names.{byte_of_nth, nth_word, place_in, same_name, words_of};
+ghost use Rattle.text_words.specs.Names.{byte_of_nth, named, nth_word, place_in, same_name, words_of};
 
 use crate::next_word;
 
@@ -39,6 +39,16 @@ pub fn place_in(names: &[u8], name: &[u8]) -> Option<usize>
     ensures upper_bound { IfSome result (λ place. place < length names.now) }
 {
     Words { text: names }.position(|word| same_name(name, word))
+}
+
+// What a name stands for; nothing where it is none of the table.
+pub fn named<T: Copy>(table: &[(&[u8], T)], word: &[u8]) -> Option<T>
+    ensures { result ≡ named (map (λ entry. (entry.0.now, entry.1)) table.now) word.now }
+{
+    table
+        .iter()
+        .find(|(name, _)| same_name(name, word))
+        .map(|(_, value)| *value)
 }
 
 // The n-th word of a text, from 0; none where there are fewer.

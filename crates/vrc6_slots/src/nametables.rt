@@ -1,4 +1,5 @@
-// The four nametable numbers and the mirroring that follow from the mode and the CHR registers.
+// The four nametable numbers and the mirroring that follow from the mode and the CHR registers. Both are handed on side by side: they
+// are two fields of `Banking`, by the names of the Rust's, and this crate stands below vrc6_banking.
 ghost use Rattle.std.specs.Prelude.{◌≡◌, ◌+◌, ◌*◌, ◌/◌, ◌%◌};
 ghost use Rattle.vrc6_slots.specs.Nametables.{chr_numbers, ciram_numbers, mirroring_numbers, mode_mirroring, nametable_mirroring, nametable_numbers, whole_registers};
 

@@ -1,6 +1,5 @@
 -- The letters and the examples, computed. Assumes nothing.
 use mathlib.Core.Path.{refl}
-use Rattle.text_words.specs.Names.{place_in}
 use Rattle.std.specs.Prelude.{◌≡◌, [], ◌∷◌, Some}
 use Rattle.vrc6_slots.specs.declared.Mirroring.{Mirroring}
 use Rattle.vrc6_slots.specs.declared.Mirroring.TheVariants.{Vertical, Horizontal, SingleScreenA, SingleScreenB, FourScreen}
@@ -12,7 +11,6 @@ use Rattle.vrc6_words.specs.Laws.{LettersLaw, WordExamples}
 use Rattle.vrc6_words.specs.Named.{mirroring_of, revision_of}
 
 mirrorings : (m : Mirroring) → mirroring_of (mirroring_letter m ∷ []) ≡ Some m
-unfolding place_in
 mirrorings Vertical = refl
 mirrorings Horizontal = refl
 mirrorings SingleScreenA = refl
@@ -20,7 +18,6 @@ mirrorings SingleScreenB = refl
 mirrorings FourScreen = refl
 
 revisions : (r : Revision) → revision_of (revision_letter r ∷ []) ≡ Some r
-unfolding place_in
 revisions A = refl
 revisions B = refl
 
@@ -28,7 +25,6 @@ pub letters_law : LettersLaw
 letters_law = record { mirrorings = mirrorings; revisions = revisions }
 
 pub examples : WordExamples
-unfolding place_in
 examples =
     record {
       vertical = refl;

@@ -1,31 +1,32 @@
-// The words by which sheets and rows of headers name a mirroring and a revision. A capital counts as its small letter. Values stand in
-// the order of their words, since `place_in` tells a word's place; a match on the letters would name each of them in both cases.
+// The words by which sheets and rows of headers name a mirroring and a revision. A capital counts as its small letter.
 #![tactic(auto)]
 
 ghost use Rattle.std.specs.Prelude.{◌≡◌};
 ghost use Rattle.vrc6_words.specs.Named.{mirroring_of, revision_of};
 
-use text_words::names::place_in;
+use text_words::names::named;
 use vrc6_banking::banking::{Mirroring, Revision};
+
+const MIRRORINGS: [(&[u8], Mirroring); 5] = [
+    (b"V", Mirroring::Vertical),
+    (b"H", Mirroring::Horizontal),
+    (b"A", Mirroring::SingleScreenA),
+    (b"B", Mirroring::SingleScreenB),
+    (b"4", Mirroring::FourScreen),
+];
+
+const REVISIONS: [(&[u8], Revision); 2] = [(b"A", Revision::A), (b"B", Revision::B)];
 
 // The mirroring that a word names.
 pub fn mirroring_of(word: &[u8]) -> Option<Mirroring>
     ensures { result ≡ mirroring_of word.now }
 {
-    let mirrorings = [
-        Mirroring::Vertical,
-        Mirroring::Horizontal,
-        Mirroring::SingleScreenA,
-        Mirroring::SingleScreenB,
-        Mirroring::FourScreen,
-    ];
-    mirrorings.get(place_in(b"V H A B 4", word)?).copied()
+    named(&MIRRORINGS, word)
 }
 
 // The revision that a word names.
 pub fn revision_of(word: &[u8]) -> Option<Revision>
     ensures { result ≡ revision_of word.now }
 {
-    let revisions = [Revision::A, Revision::B];
-    revisions.get(place_in(b"A B", word)?).copied()
+    named(&REVISIONS, word)
 }
