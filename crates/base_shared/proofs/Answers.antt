@@ -3,6 +3,7 @@ use mathlib.Core.Path.{◌≡◌, refl, sym, ap, ◌∙◌}
 use Prim.Native.Nat.{ℕ, zero, suc}
 use mathlib.Core.Bool.{false}
 use Rattle.std.specs.Prelude.{Result, Ok, Err, ⊤, is_err}
+use Rattle.std.specs.Result.{IsErr, IsErrAnd}
 use Rattle.base_shared.specs.declared.Refusal.{Refusal}
 use Rattle.base_shared.specs.declared.Refusal.TheVariants.{Limits, Lengths, Range, FirstPage, NoHeader, Mapper, FileLength}
 use Rattle.base_shared.specs.Numbers.{number, answer_number}
@@ -53,3 +54,14 @@ same_answer (Err r) (Err s) h = ap Err (same_number r s h)
 pub accepted : {A : Type 0} (x : Result A Refusal) → is_err x ≡ false → answer_number x ≡ 0
 accepted (Ok a) h = refl
 accepted (Err r) h = cc
+
+-- what `?` hands on has the number of what it was given
+pub handed_on : {A B : Type 0} {r : Refusal} (handed : Result B Refusal) (given : Result A Refusal)
+    → IsErrAnd handed (λ e. e ≡ r) → given ≡ Err r → answer_number handed ≡ answer_number given
+handed_on (Ok b) given h was = absurd h
+handed_on (Err e) given h was = ap number h ∙ sym (ap answer_number was)
+
+-- and where an answer is a refusal, that number is not 0
+pub refusal_counts : {A : Type 0} (x : Result A Refusal) → IsErr x → answer_number x ≡ 0 → ⊥
+refusal_counts (Ok a) h z = cc
+refusal_counts (Err r) h z = never_zero r z

@@ -16,7 +16,8 @@ impl Scene<'_> {
         !slots_right(self.shown_on(board).banks, asked)
     }
 
-    // Marks the steps of the menu that begin with wrong letters.
+    // Marks the steps of the menu that begin with wrong letters. `zip` of marks and steps was tried: behind its loop nothing is known of the
+    // marks.
     pub fn mark_letters(self, changing: &mut [u8], asked: [Option<u32>; 8], marks: &mut [bool])
         ensures { MarkedSteps self.entry.layout (written_state self.entry.layout self.entry.settings self.entry.fixed.now changing.old self.entry.writes.now)
             self.entry.menu.now asked marks.new }

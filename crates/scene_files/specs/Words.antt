@@ -46,6 +46,6 @@ same_revision = (revision.ghosts).eq
 abbrev pub same_mirroring : (a b : Mirroring) → Bool
 same_mirroring = (mirroring.ghosts).eq
 
--- whether interrupts are left open, likewise
+-- two choices of interrupts, likewise
 abbrev pub same_interrupts : (a b : Interrupts) → Bool
 same_interrupts = (interrupts.ghosts).eq

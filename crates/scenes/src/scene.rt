@@ -70,15 +70,9 @@ impl Scene {
         self.layout.limited().ok_or(Unplayed::NoBoard)
     }
 
-    // A board's fixed buffer. No step reads a byte of ROM, so its bytes are 0, whatever a file holds.
-    fn fixed(&self) -> Result<Vec<u8>, Unplayed> {
-        let length = self.limited()?.fixed_length() as usize;
-        Ok(vec![in self.alloc(); 0; length]?)
-    }
-
-    fn changing(&self) -> Result<Vec<u8>, Unplayed> {
-        let length = self.limited()?.changing_length() as usize;
-        Ok(vec![in self.alloc(); 0; length]?)
+    // A board's buffer. No step reads a byte of ROM, so the fixed one's bytes are 0 too, whatever a file holds.
+    fn zeros(&self, length: u32) -> Result<Vec<u8>, Unplayed> {
+        Ok(vec![in self.alloc(); 0; length as usize]?)
     }
 
     // These steps, with a board of the row's layout and mirroring, and of a revision.
@@ -104,8 +98,9 @@ impl Scene {
         writes: &[Step],
         menu: &[Step],
     ) -> Result<Ended, Unplayed> {
-        let fixed = self.fixed()?;
-        let mut changing = self.changing()?;
+        let limited = self.limited()?;
+        let fixed = self.zeros(limited.fixed_length())?;
+        let mut changing = self.zeros(limited.changing_length())?;
         self.on_board(revision, &fixed, writes, menu)
             .play(&mut changing)
             .map_err(|_| Unplayed::NoBoard)
@@ -123,8 +118,9 @@ impl Scene {
 
     // Which steps of the menu begin with wrong letters.
     pub(crate) fn marks(&self) -> Result<Vec<bool>, Unplayed> {
-        let fixed = self.fixed()?;
-        let mut changing = self.changing()?;
+        let limited = self.limited()?;
+        let fixed = self.zeros(limited.fixed_length())?;
+        let mut changing = self.zeros(limited.changing_length())?;
         let mut marks = vec![in self.alloc(); false; self.menu.len()]?;
         self.on_board(self.revision, &fixed, &self.writes, &self.menu)
             .mark_letters(&mut changing, self.asked, &mut marks);

@@ -3,6 +3,7 @@ use native.Mathlib.Omega.{arith}
 use Rattle.std.proofs.Common.{sym, ap, ◌∙◌, length}
 use Rattle.std.proofs.lemmas.Result.{err_from_is_err_and}
 use Rattle.base_shared.specs.Numbers.{answer_number}
+use Rattle.base_shared.proofs.Answers.{handed_on}
 use Rattle.host_cartridge.proofs.Runs.{behind_zeros}
 use Rattle.host_cartridge.proofs.Loading.{of_refused, checked, kept, fixed_is, changing_is}
 use Rattle.host_cartridge.proofs.filling.fill_from_file.Goals as goal
@@ -14,10 +15,8 @@ returns-in_err-cartridge-clause-value c =
 
 pub returns-in_err-check-clause-value : goal.returns-in_err-check-clause-value
 returns-in_err-check-clause-value c =
-    let p = err_from_is_err_and c.from_residual-in_err-check.result c.from_residual-in_err-check.ensures.1 in
-    rw (p.1, p.2)
-    (sym (ap answer_number c.in_err-check.was) ∙ c.check.ensures.number
-    ∙ checked c.args.file.now (length c.args.fixed.now) (length c.args.changing.now) _ (sym c.read_header.ensures ∙ c.in_ok-cartridge.was))
+    handed_on c.from_residual-in_err-check.result c.check.result c.from_residual-in_err-check.ensures.1 c.in_err-check.was ∙ c.check.ensures.number
+    ∙ checked c.args.file.now (length c.args.fixed.now) (length c.args.changing.now) _ (sym c.read_header.ensures ∙ c.in_ok-cartridge.was)
 
 pub returns-in_err-check-clause-fixed_after : goal.returns-in_err-check-clause-fixed_after
 returns-in_err-check-clause-fixed_after c =

@@ -2,9 +2,8 @@
 use mathlib.Core.Path.{sym, ap, ◌∙◌}
 use mathlib.Core.Bool.{true}
 use lib.ListN.{length}
-use Rattle.std.proofs.lemmas.Result.{err_from_is_err_and}
 use Rattle.base_shared.specs.Numbers.{answer_number}
-use Rattle.base_shared.proofs.Answers.{never_zero}
+use Rattle.base_shared.proofs.Answers.{handed_on, refusal_counts}
 use Rattle.memory_access.specs.declared.Access.{Access}
 use Rattle.memory_access.specs.Access.{access_refusal}
 use Rattle.memory_access.proofs.Accepted.{placed, refused_first}
@@ -17,13 +16,12 @@ pub returns-in_err-check-clause-number : goal.returns-in_err-check-clause-number
 returns-in_err-check-clause-number c =
     let a = c.args in
     let b = a.self.now in
-    let p = err_from_is_err_and c.from_residual.result c.from_residual.ensures.1 in
-    let refused =
-    sym (ap answer_number c.in_err-check.was) ∙ c.check.ensures
+    let e = c.from_residual.ensures in
+    let told =
+    handed_on c.from_residual.result c.check.result e.1 c.in_err-check.was ∙ c.check.ensures
     ∙ ap (λ (x : Access). access_refusal x.layout x.page (length a.fixed.now) (length a.changing.now) true) c.cpu_access-access.ensures in
-    rw (p.1, p.2)
-    (refused ∙ sym (refused_first b.layout (entry_of cpu b a.addr) (length a.fixed.now) (length a.changing.now) (register_checks b a.addr)
-    (λ none. never_zero _ (refused ∙ none))))
+    told ∙ sym (refused_first b.layout (entry_of cpu b a.addr) (length a.fixed.now) (length a.changing.now) (register_checks b a.addr)
+    (λ none. refusal_counts _ e.0 (told ∙ none)))
 
 pub store-requires : goal.store-requires
 store-requires c =
