@@ -1,13 +1,13 @@
 -- The examples, computed. Assumes nothing.
 use mathlib.Core.Path.{refl}
 use Rattle.text_words.specs.Numbers.{number_of}
-use Rattle.script_lines.specs.Lines.{call_behind, creation_after, layout_after, line_behind, line_read, name_of}
+use Rattle.script_lines.specs.Lines.{call_behind, creation_after, layout_after, line_behind, line_read, name_of, revision_after}
 use Rattle.script_lines.specs.Readings.{named_after, number_after, value_after}
 use Rattle.script_lines.specs.Values.{named_value, value_behind}
 use Rattle.script_lines.specs.Laws.{LineExamples}
 
 pub examples : LineExamples
-unfolding call_behind creation_after layout_after line_behind line_read name_of named_after named_value number_after number_of value_after value_behind
+unfolding call_behind creation_after layout_after line_behind line_read name_of named_after named_value number_after number_of revision_after value_after value_behind
 examples =
     record {
       read = refl;

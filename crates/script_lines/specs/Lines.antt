@@ -1,9 +1,10 @@
 -- What a line of a script says: its name, and the arguments that follow the name (oracle/FORMAT.md). Assumes nothing.
 use Rattle.std.specs.Prelude.{Bool, true, false, cond, List, [], ◌∷◌, ℕ, eqb, get_or, Option, Some, None, Result, Ok, Err}
 use Rattle.memory_layout.specs.declared.regions.MemoryLayout.{MemoryLayout}
-use Rattle.text_words.specs.Names.{codes, words_of}
+use Rattle.text_words.specs.Names.{codes, named, words_of}
 use Rattle.vrc6_banking.specs.declared.banking.Revision.{Revision}
 use Rattle.vrc6_slots.specs.declared.Mirroring.{Mirroring}
+use Rattle.vrc6_words.specs.Named.{revision_of}
 use Rattle.script_lines.specs.declared.error.LineError.{LineError}
 use Rattle.script_lines.specs.declared.error.LineError.TheVariants as Fault
 use Rattle.script_lines.specs.declared.line.Bytes.TheVariants as Bytes
@@ -13,7 +14,7 @@ use Rattle.script_lines.specs.declared.line.Line.{Line}
 use Rattle.script_lines.specs.declared.names.CallName.{CallName}
 use Rattle.script_lines.specs.declared.names.Name.{Name}
 use Rattle.script_lines.specs.declared.names.Shown.{Shown}
-use Rattle.script_lines.specs.Readings.{Reader, Reading, address_after, byte_after, decimal_after, given, hexadecimal_after, mirroring_after, named, named_after, then, value_after}
+use Rattle.script_lines.specs.Readings.{Reader, Reading, address_after, byte_after, chosen, decimal_after, following, given, hexadecimal_after, mirroring_after, named_after, then, value_after}
 use Rattle.script_lines.specs.Values.{buffer_after, named_value}
 
 -- ---- names
@@ -80,8 +81,8 @@ abbrev pub setting_after : Reader Bool
 setting_after = named_after ((codes "no", false) ∷ (codes "yes", true) ∷ [])
 
 -- a revision by its letter
-abbrev pub revision_after : Reader Revision
-revision_after = named_after ((codes "A", Revision.A) ∷ (codes "B", Revision.B) ∷ [])
+unfoldable pub revision_after : Reader Revision
+revision_after words = following (λ (word : List ℕ). chosen Fault.NoChoice (revision_of word)) words
 
 -- a reset by its kind
 abbrev pub reset_after : Reader CallLine

@@ -1,10 +1,9 @@
 -- A line's arguments, read one after the other (oracle/FORMAT.md). Assumes nothing.
-use Rattle.std.specs.Prelude.{cond, List, [], ◌∷◌, ℕ, eqb, drop, get_or, slice_get, Option, Some, None, option_map, Result, Ok, Err}
-use Rattle.std.specs.List.{find}
+use Rattle.std.specs.Prelude.{cond, List, [], ◌∷◌, ℕ, eqb, drop, get_or, slice_get, Option, Some, None, Result, Ok, Err}
 use Rattle.text_words.specs.declared.number.NumberError.{NumberError}
 use Rattle.text_words.specs.declared.number.NumberError.TheVariants.{NoNumber, TooLarge}
 use Rattle.text_words.specs.Numbers.{number_of}
-use Rattle.text_words.specs.Names.{codes, same_name}
+use Rattle.text_words.specs.Names.{codes, named}
 use Rattle.vrc6_slots.specs.declared.Mirroring.{Mirroring}
 use Rattle.vrc6_slots.specs.declared.Mirroring.TheVariants.{Vertical, Horizontal, SingleScreenA, SingleScreenB, FourScreen}
 use Rattle.script_lines.specs.declared.error.LineError.{LineError}
@@ -87,21 +86,17 @@ abbrev pub chosen : {A : Type 0} → (none : LineError) → Option A → Result 
 chosen none (Some v) = Ok v
 chosen none None = Err none
 
--- what a name stands for, by a table of names
-abbrev pub named : {A : Type 0} → List (List ℕ × A) → List ℕ → Option A
-named table word = option_map (λ entry. entry.1) (find (λ entry. same_name entry.0 word) table)
-
 -- one of the names, as what it stands for
 unfoldable pub named_after : {A : Type 0} → List (List ℕ × A) → Reader A
 named_after table words = following (λ (word : List ℕ). chosen Fault.NoChoice (named table word)) words
 
 -- the mirrorings, by their numbers
-abbrev pub mirrorings : List Mirroring
-mirrorings = Vertical ∷ Horizontal ∷ SingleScreenA ∷ SingleScreenB ∷ FourScreen ∷ []
+abbrev pub numbered_mirrorings : List Mirroring
+numbered_mirrorings = Vertical ∷ Horizontal ∷ SingleScreenA ∷ SingleScreenB ∷ FourScreen ∷ []
 
 -- a mirroring by its number; a number of none is too large
 abbrev pub mirroring_after : Reader Mirroring
-mirroring_after = then (number_after 10 255 Fault.NoDecimal) (λ n words. read words (chosen Fault.TooLarge (slice_get mirrorings n)))
+mirroring_after = then (number_after 10 255 Fault.NoDecimal) (λ n words. read words (chosen Fault.TooLarge (slice_get numbered_mirrorings n)))
 
 -- the words that stand for numbers
 abbrev pub numbers : List (List ℕ × ℕ)

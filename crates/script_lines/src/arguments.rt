@@ -1,17 +1,17 @@
 // A line's arguments, one after the other.
 ghost use Rattle.std.specs.Prelude.{◌≡◌, ◌≤◌, map, IfOk};
 ghost use Rattle.text_words.specs.Names.{words_of};
-ghost use Rattle.script_lines.specs.Readings.{address_after, byte_after, decimal_after, hexadecimal_after, marked_number, mirroring_after, named, named_after, number_after, number_fault, read, value_after};
+ghost use Rattle.script_lines.specs.Readings.{address_after, byte_after, decimal_after, hexadecimal_after, marked_number, mirroring_after, named_after, number_after, number_fault, read, value_after};
 
 use crate::error::LineError;
-use text_words::names::{Words, same_name};
+use text_words::names::{Words, named};
 use text_words::number::{NumberError, in_base};
 use vrc6_slots::Mirroring;
 
 // The number of `none`, which stands where any value may: no forecast is as large.
 pub const NONE: u32 = u32::MAX;
 
-// The words that stand for numbers.
+// The words that stand for numbers, since a row compares any value with any word.
 const NUMBERS: [(&[u8], u32); 6] = [
     (b"no", 0),
     (b"yes", 1),
@@ -57,6 +57,7 @@ pub fn number_after(
     marked(word, base, limit).map_err(|error| fault(error, none))
 }
 
+// Each of these has its limits in its contract, which those that read a line go by.
 pub(crate) fn address_after(words: &mut Words<'_>) -> Result<u16, LineError>
     ensures { read (words_of words.new.text.now) result ≡ address_after (words_of words.old.text.now) }
 {
@@ -89,16 +90,6 @@ pub(crate) fn mirroring_after(words: &mut Words<'_>) -> Result<Mirroring, LineEr
 {
     let number = number_after(words, 10, 0xFF, LineError::NoDecimal)?;
     Mirroring::try_from(number as u8).map_err(|_| LineError::TooLarge)
-}
-
-// What a name stands for; nothing where it is none of the table.
-pub fn named<T: Copy>(table: &[(&[u8], T)], word: &[u8]) -> Option<T>
-    ensures { result ≡ named (map (λ entry. (entry.0.now, entry.1)) table.now) word.now }
-{
-    table
-        .iter()
-        .find(|(name, _)| same_name(name, word))
-        .map(|(_, value)| *value)
 }
 
 // One of the names, as what it stands for.

@@ -5,17 +5,18 @@ ghost use Rattle.script_lines.specs.Readings.{read};
 ghost use Rattle.script_lines.specs.Lines.{access_after, call_behind, call_letter, creation_after, is_comment, layout_after, layout_s, line_behind, line_read, name_of, reset_after, revision_after, setting_after};
 
 use crate::arguments::{
-    address_after, byte_after, decimal_after, hexadecimal_after, mirroring_after, named,
-    named_after, value_after,
+    address_after, byte_after, decimal_after, hexadecimal_after, mirroring_after, named_after,
+    value_after,
 };
 use crate::error::LineError;
 use crate::names::{CallName, NAMES, Name, Shown};
 use crate::values::{Buffer, Value, buffer_after, named_value};
 use memory_layout::MemoryLayout;
 use std::fmt;
-use text_words::names::Words;
+use text_words::names::{Words, named};
 use vrc6_banking::banking::Revision;
 use vrc6_slots::Mirroring;
+use vrc6_words::revision_of;
 
 // What the buffers hold when a board is created: zeros, bytes by a seed, or what they held.
 #[derive(Clone, Copy, PartialEq, Eq, Debug)]
@@ -34,7 +35,7 @@ pub struct Creation {
     pub bytes: Bytes,
 }
 
-// A call with its arguments, as a line writes it.
+// A call with its arguments, as a line writes it. No `Call` of the board: `R` and `B` are one call there, and each is answered by its letter.
 #[derive(Clone, Copy, PartialEq, Eq, Debug)]
 pub enum CallLine {
     Read(u16),
@@ -86,8 +87,6 @@ const ACCESSES: [(&[u8], bool); 2] = [(b"r", false), (b"w", true)];
 
 const SETTINGS: [(&[u8], bool); 2] = [(b"no", false), (b"yes", true)];
 
-const REVISIONS: [(&[u8], Revision); 2] = [(b"A", Revision::A), (b"B", Revision::B)];
-
 const RESETS: [(&[u8], CallLine); 4] = [
     (b"s", CallLine::SoftReset),
     (b"h", CallLine::HardReset),
@@ -95,7 +94,7 @@ const RESETS: [(&[u8], CallLine); 4] = [
     (b"hard", CallLine::HardReset),
 ];
 
-// Whether CHR can be written.
+// Whether CHR can be written. Each table has a function of its own, so that the proofs of lines go by contracts and not by tables.
 fn access_after(words: &mut Words<'_>) -> Result<bool, LineError>
     ensures { read (words_of words.new.text.now) result ≡ access_after (words_of words.old.text.now) }
 {
@@ -108,10 +107,12 @@ fn setting_after(words: &mut Words<'_>) -> Result<bool, LineError>
     named_after(words, &SETTINGS)
 }
 
+#[tactic(auto, unfolding(crate::specs::Lines::revision_after))]
 fn revision_after(words: &mut Words<'_>) -> Result<Revision, LineError>
     ensures { read (words_of words.new.text.now) result ≡ revision_after (words_of words.old.text.now) }
 {
-    named_after(words, &REVISIONS)
+    let word = words.next().ok_or(LineError::Missing)?;
+    revision_of(word).ok_or(LineError::NoChoice)
 }
 
 fn reset_after(words: &mut Words<'_>) -> Result<CallLine, LineError>

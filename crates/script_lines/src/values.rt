@@ -183,6 +183,7 @@ pub const VALUES: [(&[u8], ValueName); 39] = [
     (b"kept", ValueName::Kept),
 ];
 
+// Each table has a function of its own, as in line.rt.
 pub(crate) fn buffer_after(words: &mut Words<'_>) -> Result<Buffer, LineError>
     ensures { read (words_of words.new.text.now) result ≡ buffer_after (words_of words.old.text.now) }
 {

@@ -14,12 +14,13 @@ pub record Sized (b : Board) : Type 0 where
   pub chr : length b.banking.chr ≡ 8
   pub nt_banks : length b.banking.nt_banks ≡ 4
 
--- a pulse has a field, and a saw
+-- a pulse has a field
 abbrev pub PulseHas : ChannelField → Type 0
 PulseHas ChannelField.Accumulator = ⊥
 PulseHas ChannelField.Rate = ⊥
 PulseHas _ = Unit {0}
 
+-- a saw has a field
 abbrev pub SawHas : ChannelField → Type 0
 SawHas ChannelField.Volume = ⊥
 SawHas ChannelField.Duty = ⊥

@@ -20,7 +20,8 @@ pub(crate) fn half(n: u32) -> u16
     (n % 65536) as u16
 }
 
-// A channel, whose values are shown and set as numbers: a flag is set by any but 0. What it has not is 0, and stays.
+// A channel, whose values are shown and set as numbers: a flag is set by any but 0. What it has not is 0,
+// and stays: a script names the fields of both, and no field is wrong of either.
 pub trait Channel {
     ghost shown: { Self → ChannelField → ℕ };
 

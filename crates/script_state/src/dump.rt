@@ -9,7 +9,7 @@ use std::fmt::{Display, Formatter};
 use vrc6::Board;
 use vrc6_banking::banking::{Banking, Revision};
 
-// Entries, each behind a blank.
+// Entries, each behind a blank. These three differ in their formats, which are literals.
 #[derive(Clone, Copy)]
 struct Entries<'a>(&'a [Page]);
 

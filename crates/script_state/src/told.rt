@@ -42,7 +42,7 @@ pub enum Said {
     View(View),
 }
 
-// By their numbers in a script.
+// By the numbers that a value is compared by: a row compares any value with any word, so every word is a number.
 #[derive(Clone, Copy, PartialEq, Eq, Debug)]
 pub enum LevelName {
     Silent = 1,
@@ -114,7 +114,7 @@ impl Told {
         }
     }
 
-    fn refused(refusal: Refusal) -> Told {
+    pub fn refused(refusal: Refusal) -> Told {
         Told::number(u8::from(refusal))
     }
 
@@ -125,28 +125,12 @@ impl Told {
         }
     }
 
-    fn of_level(level: Level) -> Told {
-        match level {
-            Level::Silent(x) => Told::said(Said::of_level(LevelName::Silent, x)),
-            Level::Held(x) => Told::said(Said::of_level(LevelName::Held, x)),
-            Level::Playing(x) => Told::said(Said::of_level(LevelName::Playing, x)),
-            Level::Refused(refusal) => Told::refused(refusal),
-        }
-    }
-
-    fn of_forecast(forecast: Result<Option<u32>, Refusal>) -> Told {
-        match forecast {
-            Ok(clocks) => Told::said(Said::Forecast(clocks)),
-            Err(refusal) => Told::refused(refusal),
-        }
-    }
-
     // Whether a call told no byte, tick, level, forecast or view.
     pub fn is_mute(&self) -> bool {
         self.said.is_none_or(|said| said.is_mute())
     }
 
-    // 0 where the call says nothing of a value.
+    // 0 where the call says nothing of a value (oracle/FORMAT.md).
     pub fn value(&self, name: AnswerValue) -> u32 {
         match (name, self.said) {
             (AnswerValue::Refusal, _) => u32::from(self.refusal),
@@ -165,6 +149,26 @@ impl Told {
     }
 }
 
+impl From<Level> for Told {
+    fn from(level: Level) -> Told {
+        match level {
+            Level::Silent(x) => Told::said(Said::of_level(LevelName::Silent, x)),
+            Level::Held(x) => Told::said(Said::of_level(LevelName::Held, x)),
+            Level::Playing(x) => Told::said(Said::of_level(LevelName::Playing, x)),
+            Level::Refused(refusal) => Told::refused(refusal),
+        }
+    }
+}
+
+impl From<Result<Option<u32>, Refusal>> for Told {
+    fn from(forecast: Result<Option<u32>, Refusal>) -> Told {
+        match forecast {
+            Ok(clocks) => Told::said(Said::Forecast(clocks)),
+            Err(refusal) => Told::refused(refusal),
+        }
+    }
+}
+
 impl From<Answer> for Told {
     fn from(answer: Answer) -> Told {
         match answer {
@@ -173,13 +177,13 @@ impl From<Answer> for Told {
                 said: Some(Said::Byte(byte)),
             },
             Answer::Done(n) | Answer::Tick(_, n) | Answer::View(n) => Told::number(n),
-            Answer::OfLevel(level) => Told::of_level(level),
-            Answer::OfForecast(forecast) => Told::of_forecast(forecast),
+            Answer::OfLevel(level) => Told::from(level),
+            Answer::OfForecast(forecast) => Told::from(forecast),
         }
     }
 }
 
-// The counts and the hash; a clock that there is not is 0.
+// The counts and the hash; a clock that there is not is 0 (oracle/FORMAT.md).
 impl Display for Clocks {
     ghost output = { λ clocks. Some (clocks_text clocks) };
 

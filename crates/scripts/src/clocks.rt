@@ -1,19 +1,19 @@
 // Many clocks at once.
 use base_floats::pattern::bits_of;
+use base_shared::Refusal;
 use script_bytes::fnv::{FNV_START, fnv_word};
 use script_state::told::Clocks;
 use vrc6::Board;
-use vrc6::board::Clocked;
 
 // Clock number k, from 1, with what it left.
-fn count(clocks: &mut Clocks, k: u32, clocked: &Clocked) {
-    let audio = clocked.board.audio;
-    if clocked.ticked {
+fn count(clocks: &mut Clocks, k: u32, ticked: bool, board: &Board) {
+    let audio = board.audio;
+    if ticked {
         clocks.ticks = clocks.ticks.wrapping_add(1);
         clocks.first = clocks.first.or(Some(k));
         clocks.last = Some(k);
     }
-    clocks.pending = clocked.board.irq.irq_pending;
+    clocks.pending = board.irq.irq_pending;
     if clocks.pending {
         clocks.interrupt = clocks.interrupt.or(Some(k));
     }
@@ -23,25 +23,20 @@ fn count(clocks: &mut Clocks, k: u32, clocked: &Clocked) {
     clocks.hash = fnv_word(clocks.hash, bits_of(audio.output()));
 }
 
-// The board behind n clocks, and what they told, or the number of a refusal. Where one clock is refused all are: it leaves the board.
-pub fn clock_times(given: Board, n: u32) -> Result<(Board, Clocks), u8> {
-    let mut board = given;
+// What n clocks of a board tell. Where one clock is refused all are: it leaves the board.
+pub fn clock_times(board: &mut Board, n: u32) -> Result<Clocks, Refusal> {
     let mut clocks = Clocks {
         ticks: 0,
         first: None,
         last: None,
         interrupt: None,
-        pending: given.irq.irq_pending,
+        pending: board.irq.irq_pending,
         sounding: 0,
         hash: FNV_START,
     };
     for k in 1..=n {
-        let clocked = board.clock();
-        if clocked.refusal != 0 {
-            return Err(clocked.refusal);
-        }
-        count(&mut clocks, k, &clocked);
-        board = clocked.board;
+        let ticked = board.lent_clock()?;
+        count(&mut clocks, k, ticked, board);
     }
-    Ok((board, clocks))
+    Ok(clocks)
 }

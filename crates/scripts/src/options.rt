@@ -1,5 +1,5 @@
 // What the arguments so far ask for.
-use script_lines::arguments::named;
+use text_words::names::named;
 
 // The rows alone, an answer for each call too, or a dump behind each answer as well.
 #[derive(Clone, Copy, PartialEq, Eq, PartialOrd, Ord, Debug)]

@@ -1,33 +1,42 @@
 // The rows of what is expected and what there is.
 use script_lines::arguments::NONE;
 use script_lines::values::{AnswerValue, Value};
-use script_state::told::{LevelName, UnknownLevel};
+use script_state::told::LevelName;
+use std::fmt;
+use std::fmt::{Display, Formatter};
 use text_output::{Output, put};
 use text_words::names::Words;
 
 // How many there are, and how many are wrong.
-#[derive(Clone, Copy)]
+#[derive(Clone, Copy, Default)]
 pub struct Rows {
     pub all: u32,
     pub wrong: u32,
 }
 
-// A level's name as a script writes it, or a number that is none's.
-fn put_level(out: &mut Output, n: u32) {
-    match LevelName::try_from(n) {
-        Ok(LevelName::Silent) => put!(out; "silent"),
-        Ok(LevelName::Held) => put!(out; "held"),
-        Ok(LevelName::Playing) => put!(out; "playing"),
-        Err(UnknownLevel(n)) => put!(out; "{n}"),
+// A value: a number, or the word for a level's name or for no forecast.
+#[derive(Clone, Copy)]
+struct Valued(Value, u32);
+
+impl Display for Valued {
+    fn fmt<W: fmt::Write>(&self, f: &mut Formatter<W>) -> fmt::Result {
+        let Valued(value, n) = *self;
+        match (value, n) {
+            (Value::Answer(AnswerValue::Level), _) => match LevelName::try_from(n) {
+                Ok(LevelName::Silent) => f.write_str("silent"),
+                Ok(LevelName::Held) => f.write_str("held"),
+                Ok(LevelName::Playing) => f.write_str("playing"),
+                Err(_) => write!(f, "{n}"),
+            },
+            (Value::Answer(AnswerValue::Forecast), NONE) => f.write_str("none"),
+            _ => write!(f, "{n}"),
+        }
     }
 }
 
-// A value: a number, or the word for a level's name or for no forecast.
-fn put_value(out: &mut Output, value: Value, n: u32) {
-    match (value, n) {
-        (Value::Answer(AnswerValue::Level), _) => put_level(out, n),
-        (Value::Answer(AnswerValue::Forecast), NONE) => put!(out; "none"),
-        _ => put!(out; "{n}"),
+impl Display for Rows {
+    fn fmt<W: fmt::Write>(&self, f: &mut Formatter<W>) -> fmt::Result {
+        write!(f, "{} rows, {} wrong", self.all, self.wrong)
     }
 }
 
@@ -45,10 +54,6 @@ fn put_name(out: &mut Output, line: &[u8]) {
 }
 
 impl Rows {
-    pub fn new() -> Rows {
-        Rows { all: 0, wrong: 0 }
-    }
-
     // Counts and prints the row of a line; a wrong one is found by the line's number.
     pub fn row(
         &mut self,
@@ -67,11 +72,7 @@ impl Rows {
             put!(out; "WRONG line {number}, ");
         }
         put_name(out, line);
-        put!(out; ": expected ");
-        put_value(out, value, expected);
-        put!(out; ", got ");
-        put_value(out, value, got);
-        out.put(b'\n');
+        put!(out; ": expected {}, got {}\n", Valued(value, expected), Valued(value, got));
     }
 
     // How many there were, if any, and how many are wrong.
@@ -81,6 +82,6 @@ impl Rows {
         }
         out.put(b'\n');
         out.text(name);
-        put!(out; ": {} rows, {} wrong\n", self.all, self.wrong);
+        put!(out; ": {}\n", *self);
     }
 }

@@ -64,7 +64,7 @@ impl Session {
             open_bus: false,
             buffers: Buffers::new(),
             printed,
-            rows: Rows::new(),
+            rows: Rows::default(),
         }
     }
 
@@ -149,12 +149,9 @@ impl Session {
 
     fn clock(&mut self, out: &mut Output, n: u32) -> Result<(), ScriptError> {
         let mut board = self.board()?;
-        self.told = match clock_times(board, n) {
-            Ok((next, clocks)) => {
-                board = next;
-                Told::said(Said::Clocks(clocks))
-            }
-            Err(refusal) => Told::number(refusal),
+        self.told = match clock_times(&mut board, n) {
+            Ok(clocks) => Told::said(Said::Clocks(clocks)),
+            Err(refusal) => Told::refused(refusal),
         };
         self.board = Some(board);
         if self.printed >= Printed::Answers {
@@ -198,7 +195,7 @@ impl Session {
         }
     }
 
-    // A byte of the last page view, 0 behind its end.
+    // A byte of the last page view, 0 behind its end (oracle/FORMAT.md).
     fn view_byte(&self, board: Board, at: u32) -> u32 {
         match self.told.said {
             Some(Said::View(view)) => byte_at(self.buffers.view(board, view.addr), at, 0),
@@ -206,7 +203,7 @@ impl Session {
         }
     }
 
-    // What there is of a value; a byte behind its buffer's end is 1,000.
+    // What there is of a value; a byte behind its buffer's end is 1,000 (oracle/FORMAT.md).
     fn found(&self, board: Board, wanted: Value) -> u32 {
         match wanted {
             Value::Byte(buffer, at) => byte_at(self.buffers.lent(buffer), at, 1000),
