@@ -1,5 +1,5 @@
 -- Examples of what the definition gives. Assumes nothing.
-use Rattle.std.specs.Prelude.{◌≡◌, List, ℕ, Option, Some, None, Result, Ok, Err}
+use Rattle.std.specs.Prelude.{◌≡◌, List, ℕ, Option, Some, None, Result, Ok}
 use Rattle.text_words.specs.Names.{codes}
 use Rattle.script_lines.specs.declared.error.LineError.{LineError}
 use Rattle.script_lines.specs.declared.line.Line.{Line}
