@@ -58,18 +58,16 @@ pub fn number_after(
 }
 
 // Each of these has its limits in its contract, which those that read a line go by.
-pub(crate) fn address_after(words: &mut Words<'_>) -> Result<u16, LineError>
+pub(crate) fn address_after(words: &mut Words<'_>) -> Result<u32, LineError>
     ensures { read (words_of words.new.text.now) result ≡ address_after (words_of words.old.text.now) }
 {
-    let addr = number_after(words, 16, 0xFFFF, LineError::NoHexadecimal)?;
-    Ok(addr as u16)
+    number_after(words, 16, 0xFFFF, LineError::NoHexadecimal)
 }
 
-pub(crate) fn byte_after(words: &mut Words<'_>) -> Result<u8, LineError>
+pub(crate) fn byte_after(words: &mut Words<'_>) -> Result<u32, LineError>
     ensures { read (words_of words.new.text.now) result ≡ byte_after (words_of words.old.text.now) }
 {
-    let byte = number_after(words, 16, 0xFF, LineError::NoHexadecimal)?;
-    Ok(byte as u8)
+    number_after(words, 16, 0xFF, LineError::NoHexadecimal)
 }
 
 pub(crate) fn hexadecimal_after(words: &mut Words<'_>) -> Result<u32, LineError>

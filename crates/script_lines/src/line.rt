@@ -38,16 +38,16 @@ pub struct Creation {
 // A call with its arguments, as a line writes it. No `Call` of the board: `R` and `B` are one call there, and each is answered by its letter.
 #[derive(Clone, Copy, PartialEq, Eq, Debug)]
 pub enum CallLine {
-    Read(u16),
-    Write(u16, u8),
-    PictureRead(u16),
-    PictureWrite(u16, u8),
-    View(u16),
+    Read(u32),
+    Write(u32, u32),
+    PictureRead(u32),
+    PictureWrite(u32, u32),
+    View(u32),
     SoftReset,
     HardReset,
     Level,
     Forecast,
-    ReadBus(u16, u8),
+    ReadBus(u32, u32),
 }
 
 // The letter of its answer.

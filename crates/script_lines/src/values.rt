@@ -1,5 +1,5 @@
 // The values that a line asks for or sets, each by its name, and by a place where there are several.
-ghost use Rattle.std.specs.Prelude.{◌≡◌};
+ghost use Rattle.std.specs.Prelude.{◌≡◌, ◌%◌};
 ghost use Rattle.text_words.specs.Names.{words_of};
 ghost use Rattle.script_lines.specs.Readings.{read};
 ghost use Rattle.script_lines.specs.Values.{buffer_after, channel_field_after, layout_field_after, named_value, value_behind, value_name_after};
@@ -71,8 +71,8 @@ const CHANNEL_FIELDS: [(&[u8], ChannelField); 10] = [
 // Entries by an address that they serve, registers by their number.
 #[derive(Clone, Copy, PartialEq, Eq, Debug)]
 pub enum BoardValue {
-    Entry(u16),
-    PictureEntry(u16),
+    Entry(u32),
+    PictureEntry(u32),
     Chr(u32),
     Nametable(u32),
     Layout(LayoutField),
@@ -182,6 +182,19 @@ pub const VALUES: [(&[u8], ValueName); 39] = [
     (b"untouched", ValueName::Untouched),
     (b"kept", ValueName::Kept),
 ];
+
+// The low bits of a number that is too large for its field.
+pub fn byte(n: u32) -> u8
+    ensures { result ≡ n % 256 }
+{
+    (n % 256) as u8
+}
+
+pub fn half(n: u32) -> u16
+    ensures { result ≡ n % 65536 }
+{
+    (n % 65536) as u16
+}
 
 // Each table has a function of its own, as in line.rt.
 pub(crate) fn buffer_after(words: &mut Words<'_>) -> Result<Buffer, LineError>

@@ -1,24 +1,11 @@
 // The values of a channel by their names.
-ghost use Rattle.std.specs.Prelude.{◌≡◌, ◌%◌, ℕ};
+ghost use Rattle.std.specs.Prelude.{◌≡◌, ℕ};
 ghost use Rattle.script_lines.specs.declared.values.ChannelField.{ChannelField};
 ghost use Rattle.script_state.specs.Channels.{pulse_value, pulse_with, saw_value, saw_with};
 
 use audio_pulse::Pulse;
 use audio_saw::Saw;
-use script_lines::values::ChannelField;
-
-// The low bits of a number that is too large for its field.
-pub(crate) fn byte(n: u32) -> u8
-    ensures { result ≡ n % 256 }
-{
-    (n % 256) as u8
-}
-
-pub(crate) fn half(n: u32) -> u16
-    ensures { result ≡ n % 65536 }
-{
-    (n % 65536) as u16
-}
+use script_lines::values::{ChannelField, byte, half};
 
 // A channel, whose values are shown and set as numbers: a flag is set by any but 0. What it has not is 0,
 // and stays: a script names the fields of both, and no field is wrong of either.

@@ -2,13 +2,12 @@
 ghost use Rattle.std.specs.Prelude.{◌≡◌};
 ghost use Rattle.script_state.specs.Values.{board_value, board_with, channel_value, channel_with, layout_value, layout_with};
 
-use crate::channels::{Channel, byte, half};
+use crate::channels::Channel;
 use audio::Audio;
 use base_floats::pattern::{bits_of, float_of};
 use memory_layout::MemoryLayout;
 use memory_pages::Page;
-use memory_tables::entry_for;
-use script_lines::values::{BoardValue, ChannelField, ChannelName, LayoutField};
+use script_lines::values::{BoardValue, ChannelField, ChannelName, LayoutField, byte, half};
 use vrc6::Board;
 
 #[tactic(auto, using(base_shared::proofs::Tests::byte_flag))]
@@ -61,8 +60,8 @@ pub fn value(board: &Board, name: BoardValue) -> u32
     ensures { result ≡ board_value board.now name }
 {
     match name {
-        BoardValue::Entry(addr) => u32::from(entry_for(&board.prg_pages, addr)),
-        BoardValue::PictureEntry(addr) => u32::from(entry_for(&board.chr_pages, addr)),
+        BoardValue::Entry(addr) => u32::from(board.prg_pages[(addr / 1024 % 64) as usize]),
+        BoardValue::PictureEntry(addr) => u32::from(board.chr_pages[(addr / 1024 % 16) as usize]),
         BoardValue::Chr(i) => u32::from(board.banking.chr[(i % 8) as usize]),
         BoardValue::Nametable(i) => u32::from(board.banking.nt_banks[(i % 4) as usize]),
         BoardValue::Layout(field) => layout_value(board.layout, field),
