@@ -6,6 +6,16 @@ ghost use Rattle.host_cartridge.specs.Filled.{changing_filled, fill_refusal, fix
 use base_shared::Refusal;
 use cartridge_header::read_header;
 
+// A loop of its own: `copy_from_slice` would ask `memmove` of a host, which needs no more of its C library than `memcpy` and `memset`.
+fn copy(from: &[u8], to: &mut [u8])
+    requires { length from.now ≡ length to.old }
+    ensures { to.new ≡ from.now }
+{
+    for i in 0..to.len() {
+        to[i] = from[i];
+    }
+}
+
 // Refused by 5, 6 or 7 as the header is, then by 2 if a buffer has another length than the layout's.
 pub fn fill_from_file(file: &[u8], fixed: &mut [u8], changing: &mut [u8]) -> Result<(), Refusal>
     ensures value { answer_number result ≡ fill_refusal file.now (length fixed.old) (length changing.old) }
@@ -18,7 +28,7 @@ pub fn fill_from_file(file: &[u8], fixed: &mut [u8], changing: &mut [u8]) -> Res
     let start = cartridge.prg_start as usize;
     let (zeros, rom) = fixed.split_at_mut(1024);
     zeros.fill(0);
-    rom.copy_from_slice(&file[start..start + rom.len()]);
+    copy(&file[start..start + rom.len()], rom);
     changing.fill(0);
     Ok(())
 }

@@ -40,7 +40,7 @@ returns-clause-fixed_after c =
     let s = c.split_at_mut-zeros.ensures in
     fixed_is c.args.file.now c.args.fixed.now c.args.changing.now _ (sym c.read_header.ensures ∙ c.in_ok-cartridge.was)
     (sym c.check.ensures.number ∙ ap answer_number c.in_ok-check.was)
-    (behind_zeros _ _ _ _ _ _ _ (omega (arith, s.front_len, s.back_len)) s.front_len s.back_len (c.fill.ensures.after (λ y h. h)) c.copy_from_slice.ensures.after)
+    (behind_zeros _ _ _ _ _ _ _ (omega (arith, s.front_len, s.back_len)) s.front_len s.back_len (c.fill.ensures.after (λ y h. h)) c.copy.ensures)
 
 pub returns-clause-changing_after : goal.returns-clause-changing_after
 returns-clause-changing_after c =
