@@ -3,7 +3,7 @@
 
 ghost use Rattle.std.specs.Prelude.{◌≡◌, ◌+◌, ◌≤◌, ◌<◌, ℕ, List, [], ◌∷◌, ◌++◌, length, take, OnOk};
 ghost use Rattle.std.specs.Fmt.{WritesText};
-ghost use Rattle.text_output.specs.Appends.{appends};
+ghost use Rattle.text_output.specs.Appends.{appends, waiting};
 
 use std::fmt;
 use std::fmt::Display;
@@ -61,22 +61,30 @@ impl Output {
         self.len += 1;
     }
 
-    // Bytes of any kind, as those of a name or a cell.
-    pub fn text(&mut self, bytes: &[u8])
-        ensures waits { length self.old + length bytes.now ≤ 65536 → self.new ≡ self.old ++ bytes.now }
-        ensures follows { 65536 < length self.old + length bytes.now → length bytes.now ≤ 65536 → self.new ≡ bytes.now }
-        ensures passes { 65536 < length bytes.now → self.new ≡ [] }
+    // Bytes that fit behind those that wait.
+    fn append(&mut self, bytes: &[u8])
+        requires { length self.old + length bytes.now ≤ 65536 }
+        ensures { self.new ≡ self.old ++ bytes.now }
     {
-        if ROOM - self.len < bytes.len() {
-            self.flush();
-        }
-        if ROOM < bytes.len() {
-            let _ = self.stdout.write_all(bytes);
-            return;
-        }
         let end = self.len + bytes.len();
         self.bytes[self.len..end].copy_from_slice(bytes);
         self.len = end;
+    }
+
+    // Bytes of any kind, as those of a name or a cell. As with bytes that are put one by one, a buffer is written out whole, as soon as
+    // a byte follows that it has no room for.
+    pub fn text(&mut self, bytes: &[u8])
+        ensures waits { length self.old + length bytes.now ≤ 65536 → self.new ≡ self.old ++ bytes.now }
+        ensures goes_on { self.new ≡ waiting (self.old ++ bytes.now) }
+    {
+        let mut rest = bytes;
+        while ROOM - self.len < rest.len() {
+            let (first, behind) = rest.split_at(ROOM - self.len);
+            self.append(first);
+            self.flush();
+            rest = behind;
+        }
+        self.append(rest);
     }
 
     // What `put!` calls.
