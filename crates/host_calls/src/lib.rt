@@ -14,7 +14,7 @@ ghost use Rattle.host_creation.specs.Numbers.{created_by};
 ghost use Rattle.host_answers.specs.Encoded.{clock_number, forecast_encoded, level_encoded, page_at, steady_clocked};
 ghost use Rattle.host_calls.specs.Answers.{byte_answer, tick_answer, tick_decoded};
 
-use base_shared::answer_number;
+use base_shared::{Refusal, answer_number};
 use host_answers::{EncodedForecast, EncodedLevel, PageAt, page_at};
 use host_creation::{NumberedSettings, create_numbered};
 use memory_access::Peeked;
@@ -54,7 +54,12 @@ pub fn vrc6_level(board: &mut Board) -> EncodedLevel
 pub fn vrc6_forecast(board: &mut Board) -> EncodedForecast
     ensures { (board.new ≡ board.old) × (result ≡ forecast_encoded (forecast board.old).forecast) }
 {
-    EncodedForecast::from(board.engine().forecast())
+    // Refused first, so that each test of a value ends the call where it fails.
+    let engine = board.engine();
+    if !engine.in_range() {
+        return EncodedForecast::from(Err(Refusal::Range));
+    }
+    EncodedForecast::from(engine.forecast())
 }
 
 // A byte, and no register. The answer is the refusal's number.
