@@ -30,7 +30,7 @@ fixed_of file =
     let c = cartridge_in file in
     replicate 1024 0 ++ bytes_from c.prg_start c.layout.prg_rom file ++ bytes_from c.chr_start (fixed_chr c.layout) file
 
--- a page of zeros, and all of a file from a place on: what an inner function fills from
+-- a page of zeros, and all of a file from a place on: what proofs take the fixed buffer from
 abbrev pub rom_from : (start : ℕ) → List ℕ → List ℕ
 rom_from start file = replicate 1024 0 ++ drop start file
 

@@ -10,6 +10,7 @@ use Rattle.host_creation.specs.declared.NumberedSettings.{NumberedSettings}
 use Rattle.host_creation.specs.Numbers.{created_by}
 use Rattle.scene_steps.specs.declared.step.Step.{Step}
 use Rattle.scene_board.specs.declared.ended.Ended.{Ended}
+use Rattle.scene_board.specs.declared.ended.SceneEnd.{SceneEnd}
 use Rattle.scene_board.specs.declared.ended.Shown.{Shown}
 use Rattle.scene_board.specs.Played.{calls_of}
 use Rattle.scene_banks.specs.Shown.{bank_shown}
@@ -42,6 +43,11 @@ written_state l s f c ws = after (new_state l s f c) (calls_of ws)
 -- board and buffers behind the menu
 abbrev pub done_state : MemoryLayout → NumberedSettings → (fixed changing : List ℕ) → (writes menu : List Step) → State
 done_state l s f c ws ms = after (written_state l s f c ws) (calls_of ms)
+
+-- the end of every scene, and the number by which its board was refused, or 0: a board that is refused has an end as well
+abbrev pub whole_end : MemoryLayout → NumberedSettings → (fixed changing : List ℕ) → (writes menu : List Step) → SceneEnd
+whole_end l s f c ws ms =
+    record { ended = end_in l (written_state l s f c ws) (done_state l s f c ws ms); refusal = (created_by l s f c).refusal }
 
 -- the end, or the number n by which the board was refused
 abbrev pub end_unless : (n : ℕ) → Ended → Result Ended ℕ

@@ -2,7 +2,7 @@
 ghost use Rattle.std.specs.Prelude.{◌≡◌};
 ghost use Rattle.vrc6.specs.Boards.{held_by};
 ghost use Rattle.host_creation.specs.Numbers.{created_by};
-ghost use Rattle.scene_board.specs.Ended.{done_state, end_of, shown_on, slots_shown, written_state};
+ghost use Rattle.scene_board.specs.Ended.{done_state, end_of, shown_on, slots_shown, whole_end, written_state};
 
 use crate::play;
 use host_creation::{NumberedSettings, create_numbered};
@@ -39,6 +39,13 @@ pub struct Ended {
     pub done: Shown,
 }
 
+// The end of every scene: what stands there, and the number by which the board's creation was refused, or 0.
+#[derive(Clone, Copy)]
+pub struct SceneEnd {
+    pub ended: Ended,
+    pub refusal: u8,
+}
+
 // The banks that the first eight entries of the picture side show.
 fn slots_shown(layout: MemoryLayout, pages: [Page; 16]) -> [Option<u32>; 8]
     ensures { result ≡ slots_shown layout pages }
@@ -70,22 +77,36 @@ impl Scene<'_> {
         }
     }
 
-    // No clock changes what slots show, so the menu plays right behind the writes. Of a board that is refused, the number says
-    // why, as the board's answers have it; it refuses every call.
+    // No clock changes what slots show, so the menu plays right behind the writes. A board that is refused is the all-zero one, which
+    // refuses every call: what it shows is told beside the number.
+    pub fn end(self, changing: &mut [u8]) -> SceneEnd
+        ensures value { result
+            ≡ whole_end self.entry.layout self.entry.settings self.entry.fixed.now changing.old self.entry.writes.now self.entry.menu.now }
+        ensures changing_after { changing.new
+            ≡ (done_state self.entry.layout self.entry.settings self.entry.fixed.now changing.old self.entry.writes.now self.entry.menu.now).changing }
+    {
+        let written = self.write(&mut *changing);
+        let done = play(written.board, self.fixed, changing, self.menu);
+        SceneEnd {
+            ended: Ended {
+                written: self.shown_on(written.board),
+                done: self.shown_on(done),
+            },
+            refusal: written.refusal,
+        }
+    }
+
+    // That end, or of a board that is refused the number alone, which says why, as the board's answers have it.
     pub fn play(self, changing: &mut [u8]) -> Result<Ended, u8>
         ensures value { result
             ≡ end_of self.entry.layout self.entry.settings self.entry.fixed.now changing.old self.entry.writes.now self.entry.menu.now }
         ensures changing_after { changing.new
             ≡ (done_state self.entry.layout self.entry.settings self.entry.fixed.now changing.old self.entry.writes.now self.entry.menu.now).changing }
     {
-        let written = self.write(&mut *changing);
-        let done = play(written.board, self.fixed, changing, self.menu);
-        if written.refusal != 0 {
-            return Err(written.refusal);
+        let end = self.end(changing);
+        if end.refusal != 0 {
+            return Err(end.refusal);
         }
-        Ok(Ended {
-            written: self.shown_on(written.board),
-            done: self.shown_on(done),
-        })
+        Ok(end.ended)
     }
 }

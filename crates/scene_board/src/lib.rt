@@ -10,7 +10,7 @@ ghost use Rattle.vrc6.specs.Boards.{held_by};
 ghost use Rattle.vrc6_calls.specs.Lists.{after, next};
 ghost use Rattle.scene_board.specs.Played.{calls_of, step_calls};
 
-pub use ended::{Ended, Scene, Shown};
+pub use ended::{Ended, Scene, SceneEnd, Shown};
 use scene_steps::Step;
 use vrc6::Board;
 use vrc6_calls::{Call, step};

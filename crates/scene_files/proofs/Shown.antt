@@ -1,5 +1,5 @@
 -- The laws, and the examples, computed. Assumes nothing.
-use Rattle.std.proofs.Common.{◌≡◌, ℕ, Bool, true, false, cond, List, Result, Ok, Err, refl, sym, ap, ◌∙◌}
+use Rattle.std.proofs.Common.{◌≡◌, ℕ, Bool, true, false, cond, List, Option, Some, None, Result, Ok, Err, refl, sym, ap, ◌∙◌}
 use borrow.Author.Tests.{eqb-true}
 use Rattle.base_shared.proofs.Tests.{tested}
 use Rattle.text_words.specs.declared.number.NumberError.{NumberError}
@@ -17,7 +17,7 @@ use Rattle.scene_files.specs.declared.singles.SingleError.{SingleError}
 use Rattle.scene_files.specs.declared.singles.SingleError.TheVariants.{ManyWords, NotTheFile}
 use Rattle.scene_files.specs.Laws.{Agreed, AgreedLaw, FileExamples}
 use Rattle.scene_files.specs.Singles.{compared}
-use Rattle.scene_files.specs.Words.{same_interrupts, same_mirroring, same_revision}
+use Rattle.scene_files.specs.Words.{same_interrupts, same_mirroring, same_revision, same_window}
 
 module _ {T : Type 0} (same : T → T → Bool) (equal : (a b : T) → same a b ≡ true → a ≡ b) where
   -- a value beside the file's is the file's
@@ -91,6 +91,12 @@ equal_choices Masked Open h = absurd (cc)
 equal_choices Open Masked h = absurd (cc)
 equal_choices Open Open h = refl
 
+equal_windows : (a b : Option ℕ) → same_window a b ≡ true → a ≡ b
+equal_windows None None h = refl
+equal_windows None (Some y) h = absurd (cc)
+equal_windows (Some x) None h = absurd (cc)
+equal_windows (Some x) (Some y) h = ap Some (eqb-true x y h)
+
 pub agreed_law : AgreedLaw
 agreed_law =
     record {
@@ -98,6 +104,7 @@ agreed_law =
       revision = agreed _ equal_revisions;
       mirroring = agreed _ equal_mirrorings;
       interrupts = agreed _ equal_choices;
+      window = agreed _ equal_windows;
     }
 
 pub examples : FileExamples

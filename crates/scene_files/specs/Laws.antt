@@ -7,19 +7,21 @@ use Rattle.scene_cells.specs.declared.choices.Interrupts.TheVariants.{Masked, Op
 use Rattle.scene_files.specs.declared.singles.Said.TheVariants.{File, Default}
 use Rattle.scene_files.specs.declared.singles.SingleError.TheVariants.{NoValue, TooLarge, ManyWords, NotTheFile}
 use Rattle.scene_files.specs.Singles.{single_of}
-use Rattle.scene_files.specs.Words.{interrupts_word, length_word, mirroring_word, same_interrupts, same_mirroring, same_revision}
+use Rattle.scene_files.specs.Words.{interrupts_word, length_word, mirroring_word, same_interrupts, same_mirroring, same_revision, same_window}
 
 -- beside a file no cell has another value than the file's, whose words are read so
 abbrev pub Agreed : {T : Type 0} → (same : T → T → Bool) → Type 0
 Agreed {T} same =
     (reads : List ℕ → Result T NumberError) (said value : T) (cell : List ℕ) → single_of same reads (File said) cell ≡ Ok value → value ≡ said
 
--- every value that a cell of one word says: a length or a line, a revision, a mirroring, and a choice of interrupts
+-- every value that a cell of one word says: a length, a revision, a mirroring, a choice of interrupts, and the line of a window, if one is
+-- given
 pub record AgreedLaw : Type 0 where
   pub number : Agreed nat_eq
   pub revision : Agreed same_revision
   pub mirroring : Agreed same_mirroring
   pub interrupts : Agreed same_interrupts
+  pub window : Agreed same_window
 
 -- cells, beside a file and without one (docs/SCENES.md)
 pub record FileExamples : Type 0 where

@@ -1,6 +1,6 @@
 -- What a word says in a column (docs/SCENES.md). Assumes nothing.
-use Rattle.std.specs.Prelude.{Bool, List, ℕ, Option, Some, Result, Ok, Err}
-use Rattle.std.specs.Option.{ok_or}
+use Rattle.std.specs.Prelude.{Bool, List, ℕ, Option, Some, Result, Ok, Err, nat_eq}
+use Rattle.std.specs.Option.{ok_or, option_eq}
 use Rattle.text_words.specs.declared.number.NumberError.{NumberError}
 use Rattle.text_words.specs.declared.number.NumberError.TheVariants.{NoNumber}
 use Rattle.text_words.specs.Numbers.{number_of}
@@ -49,3 +49,7 @@ same_mirroring = (mirroring.ghosts).eq
 -- two choices of interrupts, likewise
 abbrev pub same_interrupts : (a b : Interrupts) → Bool
 same_interrupts = (interrupts.ghosts).eq
+
+-- two lines of windows, or none, likewise
+abbrev pub same_window : (a b : Option ℕ) → Bool
+same_window = option_eq nat_eq

@@ -45,7 +45,8 @@ abbrev pub byte_read : Caller → State → (address : ℕ) → ByteRead
 byte_read k x address = let got = read_by k x address in record { board = x.board; byte = got.byte; refusal = got.refusal }
 
 -- ---- writes
--- a register takes a byte; after a bank write all entries are rebuilt (01, Banks and decode 2)
+-- a register of the banks, the sound or the interrupt takes a byte; after a bank write all entries are rebuilt
+-- (01, Banks and decode 1; 01, Banks and decode 2; 01, Sound 1)
 abbrev pub register_written : Decoded → (v : ℕ) → Board → Board
 register_written None v b = b
 register_written (Some (OfBank r)) v b = with_banking b (bank_written r v b.banking)

@@ -2,6 +2,7 @@
 // calls by value hand the board back beside the answer.
 ghost use Rattle.std.specs.Prelude.{◌≡◌};
 ghost use Rattle.memory_access.specs.Access.{answered};
+ghost use Rattle.memory_pages.specs.Pages.{found, serving};
 ghost use Rattle.memory_tables.specs.Paging.{cpu, picture};
 ghost use Rattle.vrc6_parts.specs.Reads.{by_cpu, by_picture};
 ghost use Rattle.vrc6.specs.Boards.{access_of, held_by};
@@ -10,7 +11,15 @@ ghost use Rattle.vrc6.specs.Calls.{byte_read, page_view, page_view_refusal, read
 use crate::board::{Board, ByteRead};
 use base_shared::{Refusal, answer_number};
 use memory_access::{Access, Peeked, byte_shown};
+use memory_pages::Page;
 use memory_tables::entry_for;
+
+// The page that a picture read serves: what the lookup of its entry finds, or where nothing is there the unmapped one.
+fn served(entry: Page) -> Page
+    ensures { result ≡ serving (found entry) }
+{
+    entry.lookup().unwrap_or(Page::UNMAPPED)
+}
 
 impl Board {
     // What a CPU address accesses, its entry read where it lies in the table. This and the next have `entry_for` in common, and the table is
@@ -54,10 +63,13 @@ impl Board {
     }
 
     // The picture side has no open bus: an unmapped entry shows the page of zeros, with the setting too.
+    #[tactic(auto, using(memory_pages::proofs::Entries::lookup_law))]
     pub fn lent_picture_read(&self, fixed: &[u8], changing: &[u8], addr: u16) -> Result<u8, Refusal>
         ensures { answered result ≡ read_by by_picture (held_by self.now fixed.now changing.now) addr }
     {
-        self.picture_access(addr).peek(fixed, changing, addr)
+        let access = self.picture_access(addr);
+        let page = served(access.page);
+        Access { page, ..access }.peek(fixed, changing, addr)
     }
 
     // The calls by value are two lines each: what the lent one answers, and the board beside it.

@@ -1,4 +1,4 @@
--- What the functions of this crate require of their arguments, and what inner ones return. Assumes nothing.
+-- What proofs say of a part of a table; no function of this crate requires anything. Assumes nothing.
 use Rattle.std.specs.Prelude.{Bool, cond, List, pos}
 use Rattle.memory_pages.specs.declared.page.Page.{Page}
 use Rattle.memory_layout.specs.declared.regions.Region.{Region}
