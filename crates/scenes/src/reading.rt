@@ -8,6 +8,7 @@ use crate::source::read_source;
 use cartridge::Cartridge;
 use scene_cells::choices::Interrupts;
 use scene_cells::columns::Column;
+use scene_cells::quotes::Unquoted;
 use scene_files::filed::FiledRow;
 use scene_files::singles::SingleError;
 use scene_steps::picture::{At, AtError, at_in};
@@ -67,7 +68,11 @@ impl Reader<'_> {
 
     // Tells what is wrong with the word of a cell.
     fn tell(self, out: &mut Output, column: Column, fault: WordFault) -> Told {
-        let word = shown(self.row.below.bytes(column), fault);
+        let cell = self.row.unquoted(column);
+        let word = Unquoted {
+            bytes: shown(cell.bytes, fault),
+            ..cell
+        };
         self.row.tell_word(out, column, word, fault);
         Told
     }
