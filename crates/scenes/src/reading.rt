@@ -98,7 +98,11 @@ impl Reader<'_> {
 }
 
 // The whole row. All cells are read before a fault ends the work.
-pub(crate) fn read_scene(sheet: Sheet, row: Row, out: &mut Output) -> Result<Scene, Told> {
+pub(crate) fn read_scene<'a>(
+    sheet: Sheet<'a>,
+    row: Row,
+    out: &mut Output,
+) -> Result<Scene<'a>, Told> {
     let source = read_source(sheet.folder, row, out);
     let file = source.unwrap_or(None);
     let reader = Reader { row, file };
@@ -119,6 +123,7 @@ pub(crate) fn read_scene(sheet: Sheet, row: Row, out: &mut Output) -> Result<Sce
     let asked = read_letters(row, out);
     source?;
     Ok(Scene {
+        rom: sheet.rom,
         layout: cells.layout(prg?, chr?),
         mirroring: mirroring?,
         revision: revision?,
