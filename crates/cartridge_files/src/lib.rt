@@ -23,6 +23,8 @@ pub fn read_first<F: Read + Drop, A: Allocator>(
     ensures first { IfOk result (λ read. IfSome (F.remaining file) (λ bytes. read.items ≡ take most bytes)) }
 {
     let mut bytes = Vec::new(alloc);
+    // Room for all of them at once, where there is so much, and for one byte more: a Vec that is full grows before the end is found.
+    let _ = bytes.reserve_exact(most.saturating_add(1));
     file.take(most as u64).read_to_end(&mut bytes)?;
     // It cuts nothing off: of bytes that are not known `read_to_end` doesn't promise how many there are.
     bytes.truncate(most);

@@ -1,5 +1,5 @@
 -- What a cell of one word says, and whether a file says otherwise (docs/SCENES.md). Assumes nothing.
-use Rattle.std.specs.Prelude.{Bool, cond, List, ℕ, Result, Ok, Err}
+use Rattle.std.specs.Prelude.{Bool, cond, List, ℕ, Option, Some, None, Result, Ok, Err}
 use Rattle.text_words.specs.declared.number.NumberError.{NumberError}
 use Rattle.text_words.specs.declared.number.NumberError.TheVariants as number
 use Rattle.text_words.specs.Words.{from_word, is_empty, past_word, word_of}
@@ -12,6 +12,11 @@ use Rattle.scene_files.specs.declared.singles.SingleError.TheVariants.{NoValue, 
 abbrev pub value_said : {T : Type 0} → Said T → T
 value_said (File value) = value
 value_said (Default value) = value
+
+-- the file's value, where there is a file
+abbrev pub file_value : {T : Type 0} → Said T → Option T
+file_value (File value) = Some value
+file_value (Default value) = None
 
 -- what is wrong with a word that is no value of its column
 abbrev pub single_error : NumberError → SingleError

@@ -1,11 +1,11 @@
 // The cells of a row that say one value each, beside the cartridge file that the row names.
-ghost use Rattle.std.specs.Prelude.{◌≡◌, List, ℕ, nat_eq, Result, None};
+ghost use Rattle.std.specs.Prelude.{◌≡◌, List, ℕ, nat_eq, Option, Result, None};
 ghost use Rattle.text_words.specs.declared.number.NumberError.{NumberError};
 ghost use Rattle.cartridge.specs.declared.cartridge.Cartridge.{Cartridge};
 ghost use Rattle.scene_cells.specs.declared.columns.Column.TheVariants.{Prg, Chr, Revision as RevisionColumn, Mirroring as MirroringColumn, Window, Interrupts as InterruptsColumn};
 ghost use Rattle.scene_cells.specs.declared.choices.Interrupts.TheVariants.{Masked};
 ghost use Rattle.scene_files.specs.declared.singles.Said.TheVariants.{Default};
-ghost use Rattle.scene_files.specs.Filed.{Says, layout_for, said_by, unfiled};
+ghost use Rattle.scene_files.specs.Filed.{Says, file_says, layout_for, said_by, unfiled};
 ghost use Rattle.scene_files.specs.Singles.{single_of};
 ghost use Rattle.scene_files.specs.Words.{interrupts_word, length_word, mirroring_word, revision_word, same_interrupts, same_mirroring, same_revision, window_word};
 
@@ -15,6 +15,7 @@ use memory_layout::MemoryLayout;
 use scene_cells::choices::{Interrupts, interrupts_of};
 use scene_cells::columns::Column;
 use scene_cells::lookup::HeadedRow;
+use std::fmt;
 use text_words::number::{NumberError, in_base};
 use vrc6_banking::banking::{Mirroring, Revision};
 use vrc6_words::{mirroring_of, revision_of};
@@ -36,6 +37,25 @@ pub fn unfiled() -> Cartridge
         revision: Revision::A,
         prg_start: 0,
         chr_start: 0,
+    }
+}
+
+// What a file says in a column.
+#[derive(Clone, Copy, PartialEq, Eq, Debug)]
+pub enum FileSays {
+    Length(u32),
+    Revision(Revision),
+    Mirroring(Mirroring),
+}
+
+// As a cell says it.
+impl fmt::Display for FileSays {
+    fn fmt<W: fmt::Write>(&self, f: &mut fmt::Formatter<W>) -> fmt::Result {
+        match self {
+            FileSays::Length(bytes) => write!(f, "{bytes}"),
+            FileSays::Revision(revision) => write!(f, "{revision}"),
+            FileSays::Mirroring(mirroring) => write!(f, "{mirroring}"),
+        }
     }
 }
 
@@ -91,6 +111,43 @@ impl FiledRow<'_> {
         }
     }
 
+    fn said_prg(self) -> Said<u32>
+        ensures { result ≡ said_by (λ c. c.layout.prg_rom) self.entry.file }
+    {
+        self.said(|cartridge| cartridge.layout.prg_rom)
+    }
+
+    fn said_chr(self) -> Said<u32>
+        ensures { result ≡ said_by (λ c. c.layout.chr) self.entry.file }
+    {
+        self.said(|cartridge| cartridge.layout.chr)
+    }
+
+    fn said_revision(self) -> Said<Revision>
+        ensures { result ≡ said_by (λ c. c.revision) self.entry.file }
+    {
+        self.said(|cartridge| cartridge.revision)
+    }
+
+    fn said_mirroring(self) -> Said<Mirroring>
+        ensures { result ≡ said_by (λ c. c.mirroring) self.entry.file }
+    {
+        self.said(|cartridge| cartridge.mirroring)
+    }
+
+    // What the file says in a column, if there is a file and it says something there.
+    pub fn file_says(self, column: Column) -> Option<FileSays>
+        ensures { result ≡ file_says self.entry.file column }
+    {
+        match column {
+            Column::Prg => self.said_prg().file().map(FileSays::Length),
+            Column::Chr => self.said_chr().file().map(FileSays::Length),
+            Column::Revision => self.said_revision().file().map(FileSays::Revision),
+            Column::Mirroring => self.said_mirroring().file().map(FileSays::Mirroring),
+            _ => None,
+        }
+    }
+
     // What the row says in a column whose words are read so.
     fn single<T, F>(self, column: Column, said: Said<T>, read: F) -> Result<T, SingleError>
     where
@@ -108,7 +165,7 @@ impl FiledRow<'_> {
     pub fn prg(self) -> Result<u32, SingleError>
         ensures { Says self.entry.row Prg (single_of nat_eq length_word (said_by (λ c. c.layout.prg_rom) self.entry.file)) result }
     {
-        let said = self.said(|cartridge| cartridge.layout.prg_rom);
+        let said = self.said_prg();
         self.single(Column::Prg, said, length_word)
     }
 
@@ -116,7 +173,7 @@ impl FiledRow<'_> {
     pub fn chr(self) -> Result<u32, SingleError>
         ensures { Says self.entry.row Chr (single_of nat_eq length_word (said_by (λ c. c.layout.chr) self.entry.file)) result }
     {
-        let said = self.said(|cartridge| cartridge.layout.chr);
+        let said = self.said_chr();
         self.single(Column::Chr, said, length_word)
     }
 
@@ -124,7 +181,7 @@ impl FiledRow<'_> {
     pub fn revision(self) -> Result<Revision, SingleError>
         ensures { Says self.entry.row RevisionColumn (single_of same_revision revision_word (said_by (λ c. c.revision) self.entry.file)) result }
     {
-        let said = self.said(|cartridge| cartridge.revision);
+        let said = self.said_revision();
         self.single(Column::Revision, said, revision_word)
     }
 
@@ -132,7 +189,7 @@ impl FiledRow<'_> {
     pub fn mirroring(self) -> Result<Mirroring, SingleError>
         ensures { Says self.entry.row MirroringColumn (single_of same_mirroring mirroring_word (said_by (λ c. c.mirroring) self.entry.file)) result }
     {
-        let said = self.said(|cartridge| cartridge.mirroring);
+        let said = self.said_mirroring();
         self.single(Column::Mirroring, said, mirroring_word)
     }
 

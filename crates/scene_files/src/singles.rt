@@ -1,7 +1,7 @@
 // A cell of one word: what it says, and whether a file says otherwise.
-ghost use Rattle.std.specs.Prelude.{◌≡◌, ℕ, List, Bool, Result};
+ghost use Rattle.std.specs.Prelude.{◌≡◌, ℕ, List, Bool, Option, Result};
 ghost use Rattle.text_words.specs.declared.number.NumberError.{NumberError};
-ghost use Rattle.scene_files.specs.Singles.{compared, single_error, single_of, value_said};
+ghost use Rattle.scene_files.specs.Singles.{compared, file_value, single_error, single_of, value_said};
 
 use text_words::number::NumberError;
 use text_words::{is_empty, next_word};
@@ -19,6 +19,16 @@ impl<T: Copy> Said<T> {
     {
         match self {
             Said::File(value) | Said::Default(value) => value,
+        }
+    }
+
+    // The file's value, if there is a file.
+    pub fn file(self) -> Option<T>
+        ensures { result ≡ file_value self }
+    {
+        match self {
+            Said::File(value) => Some(value),
+            Said::Default(_) => None,
         }
     }
 }
@@ -60,7 +70,7 @@ fn compared<T: Copy + PartialEq>(
 }
 
 // What a cell says whose words are read so.
-pub(crate) fn single_of<T: Copy + PartialEq, F: Fn(&[u8]) -> Result<T, NumberError>>(
+pub fn single_of<T: Copy + PartialEq, F: Fn(&[u8]) -> Result<T, NumberError>>(
     cell: &[u8],
     said: Said<T>,
     read: F,

@@ -29,7 +29,7 @@ fn unreached(step: Step, revision_b: bool) -> Option<u16> {
     }
 }
 
-impl Scene {
+impl Scene<'_> {
     // Whether the other revision would arm the counter with the same writes.
     fn armed_by_other(&self) -> Result<bool, Unplayed> {
         let ended = self.play_other()?;

@@ -14,7 +14,7 @@ use text_output::{Output, put};
 // A scene behind its writes, without its menu.
 #[derive(Clone, Copy)]
 pub struct Played<'a> {
-    pub scene: &'a Scene,
+    pub scene: &'a Scene<'a>,
     pub ended: Ended,
     // The line that is right is the one asked, or where none is, that of the interrupt without the menu.
     pub window: Window,
@@ -39,7 +39,7 @@ impl Checked {
 }
 
 impl<'a> Played<'a> {
-    pub(crate) fn new(scene: &'a Scene, ended: Ended) -> Played<'a> {
+    pub(crate) fn new(scene: &'a Scene<'a>, ended: Ended) -> Played<'a> {
         let irq = ended.written.irq;
         let alone = came_alone(irq);
         let screen = Screen::at(scene.at, irq.prescalar_counter);

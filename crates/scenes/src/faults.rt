@@ -3,12 +3,12 @@ use base_shared::Refusal;
 use cartridge_report::Refused;
 use scene_cells::columns::Column;
 use scene_cells::quotes::Unquoted;
+use scene_files::filed::FileSays;
 use scene_steps::letters::PairError;
 use scene_steps::picture::AtError;
 use scene_steps::step::StepError;
 use std::fmt;
 use text_output::{Output, put};
-use vrc6_banking::banking::{Mirroring, Revision};
 
 // What is wrong with a row, or with a cell as a whole.
 #[derive(Clone, Copy, PartialEq, Eq)]
@@ -44,25 +44,6 @@ impl fmt::Display for Fault {
 // What is wrong was told already.
 #[derive(Clone, Copy)]
 pub struct Told;
-
-// What a file says in a column.
-#[derive(Clone, Copy)]
-pub enum FileSays {
-    Length(u32),
-    Revision(Revision),
-    Mirroring(Mirroring),
-}
-
-// As a cell says it.
-impl fmt::Display for FileSays {
-    fn fmt<W: fmt::Write>(&self, f: &mut fmt::Formatter<W>) -> fmt::Result {
-        match self {
-            FileSays::Length(bytes) => write!(f, "{bytes}"),
-            FileSays::Revision(revision) => write!(f, "{revision}"),
-            FileSays::Mirroring(mirroring) => write!(f, "{mirroring}"),
-        }
-    }
-}
 
 // What is wrong with a word, as it is told behind the word.
 #[derive(Clone, Copy)]

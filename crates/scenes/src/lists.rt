@@ -4,11 +4,13 @@ use crate::letters::Banks;
 use crate::row::Row;
 use crate::scene::MOST_STEPS;
 use scene_cells::columns::Column;
+use scene_cells::quotes::Unquoted;
 use scene_steps::Step;
 use scene_steps::letters::pair_of;
 use scene_steps::step::step_of;
 use std::alloc::Global;
 use text_output::Output;
+use text_words::names::Words;
 
 fn keep_step(steps: &mut Vec<Step>, step: Step) -> Result<(), Fault> {
     if MOST_STEPS <= steps.len() {
@@ -39,10 +41,15 @@ pub(crate) fn read_steps(
     let mut steps = Vec::new(alloc);
     let mut read = Ok(());
     let mut kept = Ok(());
-    for word in row.words(column) {
+    let cell = row.unquoted(column);
+    for word in (Words { text: cell.bytes }) {
         match step_of(word) {
             Ok(step) => kept = kept.and(keep_step(&mut steps, step)),
             Err(error) => {
+                let word = Unquoted {
+                    bytes: word,
+                    ..cell
+                };
                 row.tell_word(out, column, word, WordFault::Step(error));
                 read = Err(Told);
             }
@@ -60,8 +67,13 @@ pub(crate) fn read_steps(
 pub(crate) fn read_letters(row: Row, out: &mut Output) -> Result<Banks, Told> {
     let mut asked = [None; 8];
     let mut read = Ok(());
-    for word in row.words(Column::Letters) {
+    let cell = row.unquoted(Column::Letters);
+    for word in (Words { text: cell.bytes }) {
         if let Err(fault) = keep_pair(&mut asked, word) {
+            let word = Unquoted {
+                bytes: word,
+                ..cell
+            };
             row.tell_word(out, Column::Letters, word, fault);
             read = Err(Told);
         }

@@ -25,9 +25,10 @@ use std::alloc::Global;
 use std::io::{Error, Read};
 use text_output::{Output, put};
 
-// The text of a sheet, or one byte more than a sheet may have. A no-break space counts as a blank.
+// The text of a sheet. Of one that is too long it takes two bytes more than a sheet may have, so that the next sheet of standard input
+// begins behind them. A no-break space counts as a blank.
 fn read_sheet<F: Read + Drop>(alloc: Global, file: F) -> Result<Vec<u8>, Error> {
-    let mut text = read_first(alloc, file, MOST_BYTES + 1)?;
+    let mut text = read_first(alloc, file, MOST_BYTES + 2)?;
     blank_spaces(&mut text);
     Ok(text)
 }
@@ -64,7 +65,7 @@ fn play_file(rt: &HostRuntime, path: &[u8], out: &mut Output) {
     }
 }
 
-// Where there are several sheets, its name stands above what is printed of one.
+// Where there are several sheets, its name stands above what is printed of one, and is written out before the sheet is opened.
 fn main(rt: HostRuntime) {
     let mut out = Output::new(rt.stdout());
     let count = Arguments::new(&rt).count();
@@ -76,6 +77,7 @@ fn main(rt: HostRuntime) {
         if count > 1 {
             out.text(path);
             out.put(b'\n');
+            out.flush();
         }
         play_file(&rt, path, &mut out);
     }

@@ -1,13 +1,13 @@
 // The cells of a row read as a scene. Each fault is told, so a row's faults are all seen at once.
-use crate::faults::{FileSays, Told, WordFault};
+use crate::faults::{Told, WordFault};
 use crate::lists::{read_letters, read_steps};
 use crate::row::Row;
 use crate::scene::Scene;
 use crate::sheet::Sheet;
 use crate::source::read_source;
-use cartridge::Cartridge;
 use scene_cells::choices::Interrupts;
 use scene_cells::columns::Column;
+use scene_cells::quotes::Unquoted;
 use scene_files::filed::FiledRow;
 use scene_files::singles::SingleError;
 use scene_steps::picture::{At, AtError, at_in};
@@ -21,16 +21,6 @@ fn no_value(column: Column) -> WordFault {
         Column::Mirroring => WordFault::NoMirroring,
         Column::Interrupts => WordFault::NoInterrupts,
         _ => WordFault::NoDecimal,
-    }
-}
-
-// What a file says in a column.
-fn said_by(file: Cartridge, column: Column) -> FileSays {
-    match column {
-        Column::Prg => FileSays::Length(file.layout.prg_rom),
-        Column::Revision => FileSays::Revision(file.revision),
-        Column::Mirroring => FileSays::Mirroring(file.mirroring),
-        _ => FileSays::Length(file.layout.chr),
     }
 }
 
@@ -52,22 +42,26 @@ fn shown(cell: &[u8], fault: WordFault) -> &[u8] {
 #[derive(Clone, Copy)]
 struct Reader<'a> {
     row: Row<'a>,
-    file: Option<Cartridge>,
+    cells: FiledRow<'a>,
 }
 
 impl Reader<'_> {
     fn fault(self, error: SingleError, column: Column) -> WordFault {
-        match (error, self.file) {
+        match (error, self.cells.file_says(column)) {
             (SingleError::TooLarge, _) => WordFault::TooLarge,
             (SingleError::ManyWords, _) => WordFault::ManyWords,
-            (SingleError::NotTheFile, Some(file)) => WordFault::NotTheFile(said_by(file, column)),
+            (SingleError::NotTheFile, Some(said)) => WordFault::NotTheFile(said),
             (SingleError::NoValue | SingleError::NotTheFile, _) => no_value(column),
         }
     }
 
     // Tells what is wrong with the word of a cell.
     fn tell(self, out: &mut Output, column: Column, fault: WordFault) -> Told {
-        let word = shown(self.row.below.bytes(column), fault);
+        let cell = self.row.unquoted(column);
+        let word = Unquoted {
+            bytes: shown(cell.bytes, fault),
+            ..cell
+        };
         self.row.tell_word(out, column, word, fault);
         Told
     }
@@ -93,14 +87,17 @@ impl Reader<'_> {
 }
 
 // The whole row. All cells are read before a fault ends the work.
-pub(crate) fn read_scene(sheet: Sheet, row: Row, out: &mut Output) -> Result<Scene, Told> {
+pub(crate) fn read_scene<'a>(
+    sheet: Sheet<'a>,
+    row: Row,
+    out: &mut Output,
+) -> Result<Scene<'a>, Told> {
     let source = read_source(sheet.folder, row, out);
-    let file = source.unwrap_or(None);
-    let reader = Reader { row, file };
     let cells = FiledRow {
         row: row.below,
-        file,
+        file: source.unwrap_or(None),
     };
+    let reader = Reader { row, cells };
     let prg = reader.read(out, Column::Prg, cells.prg());
     let chr = reader.read(out, Column::Chr, cells.chr());
     let revision = reader.read(out, Column::Revision, cells.revision());
@@ -114,6 +111,7 @@ pub(crate) fn read_scene(sheet: Sheet, row: Row, out: &mut Output) -> Result<Sce
     let asked = read_letters(row, out);
     source?;
     Ok(Scene {
+        rom: sheet.rom,
         layout: cells.layout(prg?, chr?),
         mirroring: mirroring?,
         revision: revision?,

@@ -8,7 +8,6 @@ use scene_cells::quotes::Unquoted;
 use scene_cells::{Cell, CellFault};
 use text_output::Output;
 use text_words::is_empty;
-use text_words::names::Words;
 
 // The sheet from its header and from a row on.
 #[derive(Clone, Copy)]
@@ -68,10 +67,14 @@ impl<'a> Row<'a> {
         self.below.cell(column)
     }
 
-    // The words of that cell.
-    pub(crate) fn words(self, column: Column) -> Words<'a> {
-        Words {
-            text: self.below.bytes(column),
+    // The bytes of that cell, and whether it is in quotes; no bytes where there is no cell.
+    pub(crate) fn unquoted(self, column: Column) -> Unquoted<'a> {
+        match self.cell(column) {
+            Some(cell) => cell.unquoted(),
+            None => Unquoted {
+                bytes: &[],
+                quoted: false,
+            },
         }
     }
 
@@ -82,15 +85,16 @@ impl<'a> Row<'a> {
     }
 
     // A fault of a word of a cell.
-    pub(crate) fn tell_word(self, out: &mut Output, column: Column, word: &[u8], fault: WordFault) {
-        let quoted = self.cell(column).is_some_and(|cell| cell.quoted);
+    pub(crate) fn tell_word(
+        self,
+        out: &mut Output,
+        column: Column,
+        word: Unquoted,
+        fault: WordFault,
+    ) {
         let place = Place {
             row: self.number,
             column: Some(column),
-        };
-        let word = Unquoted {
-            bytes: word,
-            quoted,
         };
         place.tell_word(out, word, fault);
     }

@@ -13,6 +13,12 @@ use vrc6_banking::banking::{Mirroring, Revision};
 // The most steps that a cell may have.
 pub const MOST_STEPS: usize = 4096;
 
+// The longest fixed buffer that a layout can ask.
+pub const MOST_ROM: usize = 525312;
+
+// The longest changing buffer of a row: PRG RAM, CHR that is RAM, and CIRAM of four screens.
+const MOST_RAM: usize = 20480;
+
 // Why steps are not played.
 #[derive(Clone, Copy)]
 pub enum Unplayed {
@@ -35,8 +41,16 @@ impl fmt::Display for Unplayed {
     }
 }
 
+// As much of a buffer as a layout asks for the changing one. No row asks for more.
+fn first_of(ram: &mut [u8], limited: LimitedLayout) -> Result<&mut [u8], Unplayed> {
+    ram.get_mut(..limited.changing_length() as usize)
+        .ok_or(Unplayed::NoBoard)
+}
+
 #[derive(Drop)]
-pub struct Scene {
+pub struct Scene<'a> {
+    // No step reads a byte of ROM, so a board's fixed buffer is of zeros, whatever a file holds.
+    pub rom: &'a [u8; MOST_ROM],
     pub layout: MemoryLayout,
     pub mirroring: Mirroring,
     pub revision: Revision,
@@ -50,7 +64,7 @@ pub struct Scene {
     pub asked: Banks,
 }
 
-impl Scene {
+impl Scene<'_> {
     pub(crate) fn revision_b(&self) -> bool {
         self.revision == Revision::B
     }
@@ -70,23 +84,18 @@ impl Scene {
         self.layout.limited().ok_or(Unplayed::NoBoard)
     }
 
-    // A board's buffer. No step reads a byte of ROM, so the fixed one's bytes are 0 too, whatever a file holds.
-    fn zeros(&self, length: u32) -> Result<Vec<u8>, Unplayed> {
-        Ok(vec![in self.alloc(); 0; length as usize]?)
-    }
-
     // These steps, with a board of the row's layout and mirroring, and of a revision.
     fn on_board<'a>(
-        &self,
+        &'a self,
         revision: Revision,
-        fixed: &'a [u8],
+        limited: LimitedLayout,
         writes: &'a [Step],
         menu: &'a [Step],
     ) -> BoardScene<'a> {
         BoardScene {
             layout: self.layout,
             settings: NumberedSettings::new(u8::from(self.mirroring), u8::from(revision)),
-            fixed,
+            fixed: &self.rom[..limited.fixed_length() as usize],
             writes,
             menu,
         }
@@ -99,10 +108,10 @@ impl Scene {
         menu: &[Step],
     ) -> Result<Ended, Unplayed> {
         let limited = self.limited()?;
-        let fixed = self.zeros(limited.fixed_length())?;
-        let mut changing = self.zeros(limited.changing_length())?;
-        self.on_board(revision, &fixed, writes, menu)
-            .play(&mut changing)
+        let mut ram = [0; MOST_RAM];
+        let changing = first_of(&mut ram, limited)?;
+        self.on_board(revision, limited, writes, menu)
+            .play(changing)
             .map_err(|_| Unplayed::NoBoard)
     }
 
@@ -117,13 +126,13 @@ impl Scene {
     }
 
     // Which steps of the menu begin with wrong letters.
-    pub(crate) fn marks(&self) -> Result<Vec<bool>, Unplayed> {
+    pub(crate) fn marks(&self) -> Result<[bool; MOST_STEPS], Unplayed> {
         let limited = self.limited()?;
-        let fixed = self.zeros(limited.fixed_length())?;
-        let mut changing = self.zeros(limited.changing_length())?;
-        let mut marks = vec![in self.alloc(); false; self.menu.len()]?;
-        self.on_board(self.revision, &fixed, &self.writes, &self.menu)
-            .mark_letters(&mut changing, self.asked, &mut marks);
+        let mut ram = [0; MOST_RAM];
+        let changing = first_of(&mut ram, limited)?;
+        let mut marks = [false; MOST_STEPS];
+        self.on_board(self.revision, limited, &self.writes, &self.menu)
+            .mark_letters(changing, self.asked, &mut marks);
         Ok(marks)
     }
 }

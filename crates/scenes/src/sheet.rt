@@ -4,7 +4,7 @@ use crate::faults::{Fault, put_cell};
 use crate::header::Header;
 use crate::reading::read_scene;
 use crate::row::{Row, Shape};
-use crate::scene::{Scene, Unplayed};
+use crate::scene::{MOST_ROM, Scene, Unplayed};
 use crate::totals::{Outcome, Totals};
 use scene_cells::columns::Column;
 use std::fmt;
@@ -52,6 +52,8 @@ pub struct Folder<'a> {
 pub struct Sheet<'a> {
     pub folder: Folder<'a>,
     pub header: Header<'a>,
+    // Zeros for the fixed buffers of its boards.
+    pub rom: &'a [u8; MOST_ROM],
 }
 
 // Whether a text begins with the mark of UTF-16, in either order of its two bytes.
@@ -157,7 +159,13 @@ impl Sheet<'_> {
 fn play(folder: Folder, text: &[u8], out: &mut Output) -> Result<(), SheetFault> {
     check_text(text)?;
     let header = Header::read(text, out)?;
-    let totals = Sheet { folder, header }.play_rows(out);
+    let rom = [0; MOST_ROM];
+    let sheet = Sheet {
+        folder,
+        header,
+        rom: &rom,
+    };
+    let totals = sheet.play_rows(out);
     put!(out; "{totals}");
     Ok(())
 }

@@ -44,6 +44,10 @@ pub(crate) fn read_source(
     match cartridge_named(folder, cell.unquoted()) {
         Ok(cartridge) => Ok(Some(cartridge)),
         Err(fault) => {
+            let name = Unquoted {
+                bytes: name,
+                ..cell.unquoted()
+            };
             row.tell_word(out, Column::File, name, fault);
             Err(Told)
         }

@@ -2,8 +2,5 @@
 use Rattle.scene_files.specs.Words.{length_word}
 use Rattle.scene_files.proofs.filed.FiledRow.chr.Given as goal
 
-abbrev pub ghost-said : goal.ghost-said
-ghost-said a = λ c. c.layout.chr
-
 abbrev pub ghost-single : goal.ghost-single
 ghost-single a = length_word

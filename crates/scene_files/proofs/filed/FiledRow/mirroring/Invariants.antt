@@ -2,8 +2,5 @@
 use Rattle.scene_files.specs.Words.{mirroring_word}
 use Rattle.scene_files.proofs.filed.FiledRow.mirroring.Given as goal
 
-abbrev pub ghost-said : goal.ghost-said
-ghost-said a = λ c. c.mirroring
-
 abbrev pub ghost-single : goal.ghost-single
 ghost-single a = mirroring_word

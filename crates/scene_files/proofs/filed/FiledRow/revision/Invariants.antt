@@ -2,8 +2,5 @@
 use Rattle.scene_files.specs.Words.{revision_word}
 use Rattle.scene_files.proofs.filed.FiledRow.revision.Given as goal
 
-abbrev pub ghost-said : goal.ghost-said
-ghost-said a = λ c. c.revision
-
 abbrev pub ghost-single : goal.ghost-single
 ghost-single a = revision_word

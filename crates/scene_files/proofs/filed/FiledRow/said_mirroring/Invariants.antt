@@ -1,0 +1,5 @@
+-- What `said_mirroring` takes of a cartridge. Assumes nothing.
+use Rattle.scene_files.proofs.filed.FiledRow.said_mirroring.Given as goal
+
+abbrev pub ghost-said : goal.ghost-said
+ghost-said a = λ c. c.mirroring

@@ -1,0 +1,5 @@
+-- What `said_prg` takes of a cartridge. Assumes nothing.
+use Rattle.scene_files.proofs.filed.FiledRow.said_prg.Given as goal
+
+abbrev pub ghost-said : goal.ghost-said
+ghost-said a = λ c. c.layout.prg_rom
