@@ -1,10 +1,10 @@
 // A file's bytes by its name.
 #![tactic(auto)]
 
-ghost use Rattle.std.specs.Prelude.{◌≡◌, ◌≤◌, take, vec_len, IfOk, IfSome};
+ghost use Rattle.std.specs.Prelude.{◌≡◌, ◌<◌, ◌≤◌, length, take, IfOk};
+ghost use Rattle.std.specs.Io.KnownBytes.{Consumes, IsAtEnd};
 
 use arrayvec::ArrayString;
-use std::alloc::Allocator;
 use std::fmt::Write;
 use std::fs::{Files, open};
 use std::io::{Error, ErrorKind, Print, Read, Stderr};
@@ -13,22 +13,47 @@ use std::io::{Error, ErrorKind, Print, Read, Stderr};
 // which changes nothing that its header says.
 pub const LONGEST: usize = 524816;
 
-// The file's first bytes, so many of them at most.
-pub fn read_first<F: Read + Drop, A: Allocator>(
-    alloc: A,
-    file: F,
-    most: usize,
-) -> Result<Vec<u8, A>, Error>
-    ensures fits { IfOk result (λ read. vec_len read ≤ most) }
-    ensures first { IfOk result (λ read. IfSome (F.remaining file) (λ bytes. read.items ≡ take most bytes)) }
+// What one read gives. A read that a signal cuts off is tried again, as std's readers do.
+fn read_some<F: Read>(file: &mut F, bytes: &mut [u8]) -> Result<usize, Error>
+    ensures fits { IfOk result (λ n. n ≤ length bytes.new) }
+    ensures first { IfOk result (λ n. Consumes (F.remaining file.old) (F.remaining file.new) (take n bytes.new)) }
+    ensures end { IfOk result (λ n. n ≡ 0 → 0 < length bytes.new → IsAtEnd (F.remaining file.new)) }
 {
-    let mut bytes = Vec::new(alloc);
-    // Room for all of them at once, where there is so much, and for one byte more: a Vec that is full grows before the end is found.
-    let _ = bytes.reserve_exact(most.saturating_add(1));
-    file.take(most as u64).read_to_end(&mut bytes)?;
-    // It cuts nothing off: of bytes that are not known `read_to_end` doesn't promise how many there are.
-    bytes.truncate(most);
-    Ok(bytes)
+    for _ in 0..u64::MAX {
+        match file.read(bytes) {
+            Err(error) if error.kind() == ErrorKind::Interrupted => {}
+            read => return read,
+        }
+    }
+    Err(Error::from(ErrorKind::Interrupted))
+}
+
+// Reads until the buffer is full or the file ends, and hands back how many bytes stand at the buffer's start.
+// A loop of its own: what std has for this allocates, or fails at the end of a short file.
+fn fill<F: Read>(file: &mut F, bytes: &mut [u8]) -> Result<usize, Error>
+    ensures fits { IfOk result (λ n. n ≤ length bytes.new) }
+    ensures first { IfOk result (λ n. Consumes (F.remaining file.old) (F.remaining file.new) (take n bytes.new)) }
+    ensures end { IfOk result (λ n. n < length bytes.new → IsAtEnd (F.remaining file.new)) }
+{
+    let mut done = 0;
+    while done < bytes.len() {
+        let n = read_some(file, &mut bytes[done..])?;
+        if n == 0 {
+            break;
+        }
+        done += n;
+    }
+    Ok(done)
+}
+
+// The file's bytes, as many as fit.
+pub fn read_first<'a, F: Read>(file: &mut F, bytes: &'a mut [u8]) -> Result<&'a [u8], Error>
+    ensures fits { IfOk result (λ read. length read.now ≤ length bytes.old) }
+    ensures first { IfOk result (λ read. Consumes (F.remaining file.old) (F.remaining file.new) read.now) }
+    ensures end { IfOk result (λ read. length read.now < length bytes.old → IsAtEnd (F.remaining file.new)) }
+{
+    let n = fill(file, bytes)?;
+    Ok(&bytes[..n])
 }
 
 // A path is UTF-8 text.
@@ -39,12 +64,16 @@ pub fn open_read<R: Files>(rt: &R, path: &[u8]) -> Result<R::File, Error> {
     open(rt, text)
 }
 
-// The first bytes of the file with a path.
-pub fn read_file(rt: &(impl Files + AllocGlobal), path: &[u8]) -> Result<Vec<u8>, Error>
-    ensures { IfOk result (λ read. vec_len read ≤ 524816) }
+// The first bytes of the file.
+pub fn read_file<'a>(
+    rt: &impl Files,
+    path: &[u8],
+    bytes: &'a mut [u8; LONGEST],
+) -> Result<&'a [u8], Error>
+    ensures { IfOk result (λ read. length read.now ≤ 524816) }
 {
-    let file = open_read(rt, path)?;
-    read_first(rt.alloc(), file, LONGEST)
+    let mut file = open_read(rt, path)?;
+    read_first(&mut file, bytes)
 }
 
 // The text without the number that an error of the system ends with, as ` (os error 2)`.
@@ -67,25 +96,27 @@ pub fn fail(stderr: Stderr, name: &[u8], error: Error) {
 
 #[cfg(test)]
 mod tests {
-    use super::{read_file, read_first};
+    use super::{LONGEST, read_file, read_first};
     use std::test::Fail;
 
-    // No contract says that there is memory for what is read.
+    // No contract says that a read succeeds.
     #[test]
     fn reads_the_first_bytes(rt: HostRuntime) -> Result<(), Fail> {
-        let some = read_first(rt.alloc(), b"story".as_slice(), 3)?;
-        assert_eq!(rt; some.as_slice(), b"sto".as_slice());
-        let all = read_first(rt.alloc(), b"story".as_slice(), 9)?;
-        assert_eq!(rt; all.as_slice(), b"story".as_slice());
+        let mut three = [0u8; 3];
+        let mut file = b"story".as_slice();
+        assert_eq!(rt; read_first(&mut file, &mut three)?, b"sto".as_slice());
+        let mut nine = [0u8; 9];
+        let mut file = b"story".as_slice();
+        assert_eq!(rt; read_first(&mut file, &mut nine)?, b"story".as_slice());
         Ok(())
     }
 
     // The file that this test runs from.
     #[test]
     fn reads_a_file(rt: HostRuntime) -> Result<(), Fail> {
-        let bytes = read_file(&rt, b"/proc/self/exe")?;
-        assert!(rt; bytes.as_slice().starts_with(b"\x7fELF"));
-        assert!(rt; read_file(&rt, b"").is_err());
+        let mut bytes = [0u8; LONGEST];
+        assert!(rt; read_file(&rt, b"/proc/self/exe", &mut bytes)?.starts_with(b"\x7fELF"));
+        assert!(rt; read_file(&rt, b"", &mut bytes).is_err());
         Ok(())
     }
 }

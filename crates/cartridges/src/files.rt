@@ -1,5 +1,5 @@
 // What a cartridge file says, under its name.
-use cartridge_files::read_file;
+use cartridge_files::{LONGEST, read_file};
 use cartridge_header::read_header;
 use cartridge_report::{Refused, Report};
 use text_output::{Output, put};
@@ -13,11 +13,12 @@ fn put_answer(out: &mut Output, file: &[u8]) {
 
 // A file that can't be read is told in its place among the others.
 pub(crate) fn print_file(rt: &HostRuntime, name: &[u8]) {
+    let mut bytes = [0u8; LONGEST];
     let mut out = Output::new(rt.stdout());
     out.text(name);
     out.put(b'\n');
-    match read_file(rt, name) {
-        Ok(file) => put_answer(&mut out, &file),
+    match read_file(rt, name, &mut bytes) {
+        Ok(file) => put_answer(&mut out, file),
         Err(_) => out.text(b"  can't be read\n"),
     }
     out.flush();

@@ -1,8 +1,9 @@
 // A row: the first bytes of a file, how many bytes it has, and what `read_header` must answer (oracle/FORMAT.md).
+ghost use Rattle.std.specs.Prelude.{◌≤◌, IfSome};
+
 use base_shared::Refusal;
 use cartridge::Cartridge;
 use memory_layout::MemoryLayout;
-use std::alloc::{AllocError, Global};
 use std::fmt;
 use std::fmt::{Display, Formatter};
 use text_words::names::{Words, same_name};
@@ -11,7 +12,7 @@ use text_words::only_word;
 use vrc6_words::{mirroring_of, revision_of};
 
 // The longest file of a row.
-const LONGEST_FILE: u32 = 600000;
+pub const LONGEST_FILE: usize = 600000;
 
 // The largest number of an answer.
 const LARGEST: u32 = 0xFFFF_FFFE;
@@ -44,14 +45,14 @@ pub struct Row {
     pub head: [u8; 16],
     pub length: usize,
     pub answer: Result<Cartridge, Refusal>,
+    ghost fits: { length ≤ 600000 },
 }
 
 impl Row {
-    // The file that the row tells of.
-    pub(crate) fn file(&self, alloc: Global) -> Result<Vec<u8>, AllocError> {
-        let mut file = Vec::from_slice(alloc, &self.head)?;
-        file.resize(self.length, 0)?;
-        Ok(file)
+    // The file that the row tells of, at the start of a space that has zeros behind a row's head.
+    pub(crate) fn file<'a>(&self, space: &'a mut [u8; LONGEST_FILE]) -> &'a [u8] {
+        space[..16].copy_from_slice(&self.head);
+        &space[..self.length]
     }
 }
 
@@ -70,8 +71,10 @@ fn head_of(word: &[u8]) -> Option<[u8; 16]> {
     Some(head)
 }
 
-fn length_of(word: &[u8]) -> Option<usize> {
-    let length = in_base(word, 10, LONGEST_FILE).ok()?;
+fn length_of(word: &[u8]) -> Option<usize>
+    ensures { IfSome result (λ length. length ≤ 600000) }
+{
+    let length = in_base(word, 10, LONGEST_FILE as u32).ok()?;
     Some(length as usize)
 }
 

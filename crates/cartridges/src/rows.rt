@@ -1,14 +1,13 @@
 // Rows of headers: each is played, and those whose answer differs are printed.
-use crate::row::{Row, read_row};
+use crate::row::{LONGEST_FILE, Row, read_row};
 use cartridge_files::{LONGEST, fail, read_file};
 use cartridge_header::read_header;
 use cartridge_report::answers::Answer;
-use std::alloc::{AllocError, Global};
 use std::fmt;
 use std::fmt::{Display, Formatter};
 use std::io::Error;
 use text_output::{Output, put};
-use text_words::next_word;
+use text_words::is_blank;
 
 // How many rows there are, how many of them are answered otherwise, and how many lines are no rows.
 #[derive(Clone, Copy, Default)]
@@ -29,67 +28,66 @@ impl Display for Tally {
 #[derive(Drop)]
 struct Player<'a> {
     tally: Tally,
-    alloc: Global,
+    // The space of each row's file in turn; behind a head it has zeros.
+    space: &'a mut [u8; LONGEST_FILE],
     out: &'a mut Output,
 }
 
 impl<'a> Player<'a> {
-    fn play_row(&mut self, line: usize, row: &Row) -> Result<(), AllocError> {
+    fn play_row(&mut self, line: usize, row: &Row) {
         self.tally.rows = self.tally.rows.saturating_add(1);
-        let file = row.file(self.alloc)?;
-        let got = read_header(&file);
+        let got = read_header(row.file(self.space));
         if got != row.answer {
             self.tally.wrong = self.tally.wrong.saturating_add(1);
             let expected = Answer(row.answer);
             let got = Answer(got);
             put!(self.out; "WRONG line {line}: expected {expected}, got {got}\n");
         }
-        Ok(())
     }
 
-    fn play_line(&mut self, line: usize, text: &[u8]) -> Result<(), AllocError> {
+    fn play_line(&mut self, line: usize, text: &[u8]) {
         match read_row(text) {
             Ok(row) => self.play_row(line, &row),
             Err(error) => {
                 self.tally.bad = self.tally.bad.saturating_add(1);
                 put!(self.out; "line {line}: {error}\n");
-                Ok(())
             }
         }
     }
 
-    fn play_lines(&mut self, text: &[u8]) -> Result<(), AllocError> {
+    fn play_lines(&mut self, text: &[u8]) {
         for (i, line) in text.split(|byte| *byte == b'\n').enumerate() {
             if is_row(line) {
-                self.play_line(i.saturating_add(1), line)?;
+                self.play_line(i.saturating_add(1), line);
             }
         }
-        Ok(())
     }
 }
 
 // A line without a word, or whose first word begins with #, is no row.
 fn is_row(line: &[u8]) -> bool {
-    match next_word(line) {
-        Some(word) => !word.bytes.starts_with(b"#"),
+    match line.iter().find(|byte| !is_blank(**byte)) {
+        Some(first) => *first != b'#',
         None => false,
     }
 }
 
 fn play_named(rt: &HostRuntime, name: &[u8], out: &mut Output) -> Result<(), Error> {
-    let text = read_file(rt, name)?;
+    let mut bytes = [0u8; LONGEST];
+    let text = read_file(rt, name, &mut bytes)?;
     // A text that is as long as is read may be longer.
     if LONGEST <= text.len() {
         out.text(name);
         out.text(b": longer than 524815 bytes\n");
         return Ok(());
     }
+    let mut space = [0u8; LONGEST_FILE];
     let mut player = Player {
         tally: Tally::default(),
-        alloc: rt.alloc(),
+        space: &mut space,
         out,
     };
-    player.play_lines(&text)?;
+    player.play_lines(text);
     let tally = player.tally;
     out.text(name);
     put!(out; ": {tally}\n");

@@ -21,16 +21,18 @@ use crate::sheet::{Folder, MOST_BYTES, run};
 use cartridge_files::{fail, open_read, read_first};
 use program_arguments::Arguments;
 use scene_cells::spaces::blank_spaces;
-use std::alloc::Global;
 use std::io::{Error, Read};
 use text_output::{Output, put};
 
-// The text of a sheet. Of one that is too long it takes two bytes more than a sheet may have, so that the next sheet of standard input
-// begins behind them. A no-break space counts as a blank.
-fn read_sheet<F: Read + Drop>(alloc: Global, file: F) -> Result<Vec<u8>, Error> {
-    let mut text = read_first(alloc, file, MOST_BYTES + 2)?;
-    blank_spaces(&mut text);
-    Ok(text)
+// Two bytes more than a sheet may have: of one that is too long so many are taken, and the next sheet of standard input begins behind them.
+const SHEET: usize = MOST_BYTES + 2;
+
+// The text of a sheet. A no-break space counts as a blank.
+fn read_sheet<'a, F: Read>(file: &mut F, text: &'a mut [u8; SHEET]) -> Result<&'a [u8], Error> {
+    let n = read_first(file, text)?.len();
+    let read = &mut text[..n];
+    blank_spaces(read);
+    Ok(read)
 }
 
 // Says that nothing was played of a sheet that can't be read.
@@ -41,9 +43,10 @@ fn tell_unread(rt: &HostRuntime, name: &[u8], error: Error, out: &mut Output) {
     out.flush();
 }
 
-fn play<F: Read + Drop>(folder: Folder, file: F, name: &[u8], out: &mut Output) {
-    match read_sheet(folder.rt.alloc(), file) {
-        Ok(text) => run(folder, &text, out),
+fn play<F: Read + Drop>(folder: Folder, mut file: F, name: &[u8], out: &mut Output) {
+    let mut text = [0; SHEET];
+    match read_sheet(&mut file, &mut text) {
+        Ok(text) => run(folder, text, out),
         Err(error) => tell_unread(folder.rt, name, error, out),
     }
 }
