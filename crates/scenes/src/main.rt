@@ -21,14 +21,17 @@ use crate::sheet::{Folder, MOST_BYTES, run};
 use cartridge_files::{fail, open_read, read_first};
 use program_arguments::Arguments;
 use scene_cells::spaces::blank_spaces;
-use std::alloc::Global;
 use std::io::{Error, Read};
 use text_output::{Output, put};
 
-// The text of a sheet, or one byte more than a sheet may have. A no-break space counts as a blank.
-fn read_sheet<F: Read + Drop>(alloc: Global, file: F) -> Result<Vec<u8>, Error> {
-    let mut text = read_first(alloc, file, MOST_BYTES + 1)?;
-    blank_spaces(&mut text);
+// One byte more than a sheet may have.
+const SHEET: usize = MOST_BYTES + 1;
+
+// The text of a sheet, as much of it as fits. A no-break space counts as a blank.
+fn read_sheet<'a, F: Read>(file: &mut F, space: &'a mut [u8; SHEET]) -> Result<&'a [u8], Error> {
+    let length = read_first(file, space)?.len();
+    let text = &mut space[..length];
+    blank_spaces(text);
     Ok(text)
 }
 
@@ -40,9 +43,12 @@ fn tell_unread(rt: &HostRuntime, name: &[u8], error: Error, out: &mut Output) {
     out.flush();
 }
 
-fn play<F: Read + Drop>(folder: Folder, file: F, name: &[u8], out: &mut Output) {
-    match read_sheet(folder.rt.alloc(), file) {
-        Ok(text) => run(folder, &text, out),
+// Out of line, so that standard input and a file never have their sheets on the stack together.
+#[inline(never)]
+fn play<F: Read + Drop>(folder: Folder, mut file: F, name: &[u8], out: &mut Output) {
+    let mut space = [0u8; SHEET];
+    match read_sheet(&mut file, &mut space) {
+        Ok(text) => run(folder, text, out),
         Err(error) => tell_unread(folder.rt, name, error, out),
     }
 }

@@ -3,7 +3,7 @@ use crate::faults::{Told, WordFault};
 use crate::row::Row;
 use crate::sheet::Folder;
 use cartridge::Cartridge;
-use cartridge_files::read_file;
+use cartridge_files::{LONGEST, read_file};
 use cartridge_header::read_header;
 use scene_cells::columns::Column;
 use scene_cells::quotes::Unquoted;
@@ -14,8 +14,9 @@ use text_output::Output;
 const MOST_PATH: usize = 4095;
 
 fn cartridge_at(rt: &HostRuntime, path: &[u8]) -> Result<Cartridge, WordFault> {
-    match read_file(rt, path) {
-        Ok(file) => read_header(&file).map_err(WordFault::Refused),
+    let mut bytes = [0u8; LONGEST];
+    match read_file(rt, path, &mut bytes) {
+        Ok(file) => read_header(file).map_err(WordFault::Refused),
         Err(_) => Err(WordFault::Unread),
     }
 }
