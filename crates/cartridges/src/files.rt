@@ -11,7 +11,9 @@ fn put_answer(out: &mut Output, file: &[u8]) {
     }
 }
 
-// A file that can't be read is told in its place among the others.
+// A file that can't be read is told in its place among the others. It stays a function of its own, so that its array and that of rows never
+// lie on the stack together.
+#[inline(never)]
 pub(crate) fn print_file(rt: &HostRuntime, name: &[u8]) {
     let mut bytes = [0u8; LONGEST];
     let mut out = Output::new(rt.stdout());

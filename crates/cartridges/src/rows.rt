@@ -55,12 +55,33 @@ impl<'a> Player<'a> {
         }
     }
 
-    fn play_lines(&mut self, text: &[u8]) {
-        for (i, line) in text.split(|byte| *byte == b'\n').enumerate() {
-            if is_row(line) {
-                self.play_line(i.saturating_add(1), line);
-            }
+    // Plays the first line of a text, and hands back what stands behind it.
+    fn play_first<'t>(&mut self, number: usize, text: &'t [u8]) -> &'t [u8] {
+        let (line, behind) = first_line(text);
+        if is_row(line) {
+            self.play_line(number, line);
         }
+        behind
+    }
+
+    // An empty line is passed over at once.
+    fn play_lines(&mut self, text: &[u8]) {
+        let mut rest = text;
+        for number in 1..usize::MAX {
+            rest = match rest {
+                [] => break,
+                [b'\n', behind @ ..] => behind,
+                _ => self.play_first(number, rest),
+            };
+        }
+    }
+}
+
+// The first line of a text, and what stands behind its line feed.
+fn first_line(text: &[u8]) -> (&[u8], &[u8]) {
+    match text.iter().position(|byte| *byte == b'\n') {
+        Some(end) => (&text[..end], &text[end + 1..]),
+        None => (text, &[]),
     }
 }
 

@@ -100,12 +100,17 @@ impl fmt::Display for Place {
     }
 }
 
+const DIGITS: [u8; 16] = *b"0123456789ABCDEF";
+
 // A byte of a cell. Control characters are written as \xHH, so that a cell stays on its line; a backslash is doubled.
 fn put_byte(out: &mut Output, byte: u8) {
     if byte.is_ascii_control() {
-        put!(out; "\\x{byte:02X}");
+        // By hand, since a name may have nothing else: a format for each byte takes longer.
+        out.text(b"\\x");
+        out.put(DIGITS[usize::from(byte / 16)]);
+        out.put(DIGITS[usize::from(byte % 16)]);
     } else if byte == b'\\' {
-        put!(out; "\\\\");
+        out.text(b"\\\\");
     } else {
         out.put(byte);
     }

@@ -43,9 +43,11 @@ fn tell_unread(rt: &HostRuntime, name: &[u8], error: Error, out: &mut Output) {
     out.flush();
 }
 
+// Out of line, so that standard input and a file never have their sheets on the stack together.
+#[inline(never)]
 fn play<F: Read + Drop>(folder: Folder, mut file: F, name: &[u8], out: &mut Output) {
-    let mut text = [0; SHEET];
-    match read_sheet(&mut file, &mut text) {
+    let mut space = [0u8; SHEET];
+    match read_sheet(&mut file, &mut space) {
         Ok(text) => run(folder, text, out),
         Err(error) => tell_unread(folder.rt, name, error, out),
     }

@@ -14,7 +14,7 @@ use text_output::Output;
 const MOST_PATH: usize = 4095;
 
 fn cartridge_at(rt: &HostRuntime, path: &[u8]) -> Result<Cartridge, WordFault> {
-    let mut bytes = [0; LONGEST];
+    let mut bytes = [0u8; LONGEST];
     match read_file(rt, path, &mut bytes) {
         Ok(file) => read_header(file).map_err(WordFault::Refused),
         Err(_) => Err(WordFault::Unread),
