@@ -1,6 +1,6 @@
 // What to change in a scene whose window is not right, and writes that reach nothing.
 use crate::checking::Played;
-use crate::scene::{Scene, Unplayed};
+use crate::scene::{NoBoard, Scene, Steps};
 use registers::{IrqRegister, Register, decode};
 use scene_moments::moment::clocks_due;
 use scene_moments::{Mark, Verdict};
@@ -31,13 +31,13 @@ fn unreached(step: Step, revision_b: bool) -> Option<u16> {
 
 impl Scene<'_> {
     // Whether the other revision would arm the counter with the same writes.
-    fn armed_by_other(&self) -> Result<bool, Unplayed> {
+    fn armed_by_other(&self) -> Result<bool, NoBoard> {
         let ended = self.play_other()?;
         Ok(clocks_due(ended.written.irq).is_some())
     }
 
     // Why the interrupt never comes.
-    fn tell_never(&self, out: &mut Output) -> Result<(), Unplayed> {
+    fn tell_never(&self, out: &mut Output) -> Result<(), NoBoard> {
         if self.armed_by_other()? {
             let other = self.other_revision();
             put!(out; "  change: revision {other} would arm it with the same writes\n");
@@ -59,20 +59,20 @@ impl Scene<'_> {
     }
 
     // The writes, with another byte for the latch.
-    fn latched(&self, latch: u8) -> Result<Vec<Step>, Unplayed> {
+    fn latched(&self, latch: u8) -> Steps {
         let revision_b = self.revision_b();
-        let writes = self
-            .writes
-            .iter()
-            .map(|step| with_latch(*step, revision_b, latch))
-            .collect(self.alloc())?;
-        Ok(writes)
+        let mut writes = Steps::new();
+        for step in self.writes {
+            // As many as the row has, so there is room.
+            let _ = writes.push(with_latch(*step, revision_b, latch));
+        }
+        writes
     }
 
     // Whether the writes with another latch put the interrupt on the line asked.
-    fn is_right_with(&self, latch: u8) -> Result<bool, Unplayed> {
-        let writes = self.latched(latch)?;
-        let ended = self.play(&writes, &[])?;
+    fn is_right_with(&self, latch: u8) -> Result<bool, NoBoard> {
+        let writes = self.latched(latch);
+        let ended = self.play(writes.as_slice(), &[])?;
         let played = Played::new(self, ended);
         Ok(!ended.written.irq.irq_pending && played.verdict.mark() == Mark::Right)
     }
@@ -80,7 +80,7 @@ impl Scene<'_> {
 
 impl Played<'_> {
     // A latch so many lines nearer or farther, if it puts the interrupt on the line asked: the writes are played with it.
-    fn tell_other_latch(self, out: &mut Output, line: u32, asked: u32) -> Result<(), Unplayed> {
+    fn tell_other_latch(self, out: &mut Output, line: u32, asked: u32) -> Result<(), NoBoard> {
         let latch = (line
             .wrapping_sub(asked)
             .wrapping_add(u32::from(self.ended.written.irq.reload))
@@ -105,7 +105,7 @@ impl Played<'_> {
     }
 
     // What to change, if a window is asked and the interrupt does not come on it.
-    pub(crate) fn tell_changes(self, out: &mut Output) -> Result<(), Unplayed> {
+    pub(crate) fn tell_changes(self, out: &mut Output) -> Result<(), NoBoard> {
         let Some(asked) = self.scene.window else {
             return Ok(());
         };

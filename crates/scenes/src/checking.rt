@@ -1,6 +1,6 @@
 // A scene that was played: its letters, its window, and the sweep of its menu.
 use crate::letters::{When, are_asked};
-use crate::scene::{Scene, Unplayed};
+use crate::scene::{NoBoard, Scene};
 use crate::totals::{Count, Judged, Moments, Outcome};
 use scene_board::Ended;
 use scene_moments::moment::{came_after, came_alone, clocks_due};
@@ -65,7 +65,7 @@ impl<'a> Played<'a> {
         };
         MenuSweep {
             sweep,
-            menu: &self.scene.menu,
+            menu: self.scene.menu,
         }
     }
 
@@ -112,7 +112,7 @@ impl<'a> Played<'a> {
             self.ended.written.irq,
             0,
             self.scene.revision_b(),
-            &self.scene.menu,
+            self.scene.menu,
         );
         match came.set() {
             Some(clock) if !self.is_nothing(came) => {
@@ -129,7 +129,7 @@ impl<'a> Played<'a> {
         }
     }
 
-    fn check_menu(self, out: &mut Output) -> Result<Checked, Unplayed> {
+    fn check_menu(self, out: &mut Output) -> Result<Checked, NoBoard> {
         let irq = self.ended.written.irq;
         if self.scene.menu.is_empty() {
             return Ok(Checked::unswept(true));
@@ -180,7 +180,7 @@ impl<'a> Played<'a> {
 }
 
 // Tells what a scene came to that was played so.
-pub(crate) fn check(scene: &Scene, ended: Ended, out: &mut Output) -> Result<Outcome, Unplayed> {
+pub(crate) fn check(scene: &Scene, ended: Ended, out: &mut Output) -> Result<Outcome, NoBoard> {
     let played = Played::new(scene, ended);
     When::AtEnd.tell(out, ended.written.banks, scene.asked);
     played.tell_window(out);

@@ -21,7 +21,6 @@ pub enum Fault {
     Blank,
     ManyCells,
     ManySteps,
-    OutOfMemory,
     Unnamed,
 }
 
@@ -35,7 +34,6 @@ impl fmt::Display for Fault {
             Fault::Blank => "blank",
             Fault::ManyCells => "more cells than the header has",
             Fault::ManySteps => "more than 4096 steps",
-            Fault::OutOfMemory => "out of memory",
             Fault::Unnamed => "a cell stands under a column without a name",
         })
     }

@@ -1,7 +1,7 @@
 // An interrupt that comes while the menu waits meets the letters that the menu has written so far.
 use crate::checking::Played;
 use crate::letters::{When, are_asked};
-use crate::scene::Unplayed;
+use crate::scene::NoBoard;
 use scene_steps::Step;
 use scene_sweep::Met;
 use text_output::Output;
@@ -19,7 +19,7 @@ impl Played<'_> {
     }
 
     // The slots that are wrong where the first such interrupt comes. Hands back whether there is none.
-    pub(crate) fn tell_inside(self, out: &mut Output, clocks: u32) -> Result<bool, Unplayed> {
+    pub(crate) fn tell_inside(self, out: &mut Output, clocks: u32) -> Result<bool, NoBoard> {
         let scene = self.scene;
         if !are_asked(scene.asked) {
             return Ok(true);
@@ -28,8 +28,8 @@ impl Played<'_> {
         let Some(met) = self.met(clocks, &marks) else {
             return Ok(true);
         };
-        let begun = scene.menu.get(..met.step).unwrap_or(&scene.menu);
-        let ended = scene.play(&scene.writes, begun)?;
+        let begun = scene.menu.get(..met.step).unwrap_or(scene.menu);
+        let ended = scene.play(scene.writes, begun)?;
         When::Inside(met).tell_wrong(out, ended.done.banks, scene.asked);
         Ok(false)
     }

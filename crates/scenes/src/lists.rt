@@ -2,21 +2,17 @@
 use crate::faults::{Fault, Told, WordFault};
 use crate::letters::Banks;
 use crate::row::Row;
-use crate::scene::MOST_STEPS;
+use crate::scene::Steps;
 use scene_cells::columns::Column;
 use scene_cells::quotes::Unquoted;
 use scene_steps::Step;
 use scene_steps::letters::pair_of;
 use scene_steps::step::step_of;
-use std::alloc::Global;
 use text_output::Output;
 use text_words::names::Words;
 
-fn keep_step(steps: &mut Vec<Step>, step: Step) -> Result<(), Fault> {
-    if MOST_STEPS <= steps.len() {
-        return Err(Fault::ManySteps);
-    }
-    steps.push(step).map_err(|_| Fault::OutOfMemory)
+fn keep_step(steps: &mut Steps, step: Step) -> Result<(), Fault> {
+    steps.push(step).ok_or(Fault::ManySteps)
 }
 
 // Keeps a pair's bank in its slot's place.
@@ -31,20 +27,20 @@ fn keep_pair(asked: &mut Banks, word: &[u8]) -> Result<(), WordFault> {
     Ok(())
 }
 
-// The steps of a column's cell, in their order.
+// The steps of a column's cell, in their order, in place of those that were kept.
 pub(crate) fn read_steps(
-    alloc: Global,
     row: Row,
     column: Column,
     out: &mut Output,
-) -> Result<Vec<Step>, Told> {
-    let mut steps = Vec::new(alloc);
+    steps: &mut Steps,
+) -> Result<(), Told> {
+    steps.clear();
     let mut read = Ok(());
     let mut kept = Ok(());
     let cell = row.unquoted(column);
     for word in (Words { text: cell.bytes }) {
         match step_of(word) {
-            Ok(step) => kept = kept.and(keep_step(&mut steps, step)),
+            Ok(step) => kept = kept.and(keep_step(steps, step)),
             Err(error) => {
                 let word = Unquoted {
                     bytes: word,
@@ -59,8 +55,7 @@ pub(crate) fn read_steps(
         row.tell(out, Some(column), fault);
         return Err(Told);
     }
-    read?;
-    Ok(steps)
+    read
 }
 
 // The banks that the cell of the letters asks.

@@ -2,7 +2,7 @@
 use crate::faults::{Told, WordFault};
 use crate::lists::{read_letters, read_steps};
 use crate::row::Row;
-use crate::scene::Scene;
+use crate::scene::{RowSteps, Scene};
 use crate::sheet::Sheet;
 use crate::source::read_source;
 use scene_cells::choices::Interrupts;
@@ -90,6 +90,7 @@ impl Reader<'_> {
 pub(crate) fn read_scene<'a>(
     sheet: Sheet<'a>,
     row: Row,
+    steps: &'a mut RowSteps,
     out: &mut Output,
 ) -> Result<Scene<'a>, Told> {
     let source = read_source(sheet.folder, row, out);
@@ -105,11 +106,13 @@ pub(crate) fn read_scene<'a>(
     let window = reader.read(out, Column::Window, cells.window());
     let at = reader.at(out);
     let interrupts = reader.read(out, Column::Interrupts, cells.interrupts());
-    let alloc = sheet.folder.rt.alloc();
-    let writes = read_steps(alloc, row, Column::Writes, out);
-    let menu = read_steps(alloc, row, Column::Menu, out);
+    let RowSteps { writes, menu } = steps;
+    let written = read_steps(row, Column::Writes, out, writes);
+    let handled = read_steps(row, Column::Menu, out, menu);
     let asked = read_letters(row, out);
     source?;
+    written?;
+    handled?;
     Ok(Scene {
         rom: sheet.rom,
         layout: cells.layout(prg?, chr?),
@@ -118,8 +121,8 @@ pub(crate) fn read_scene<'a>(
         window: window?,
         at: at?,
         unmasked: interrupts? == Interrupts::Open,
-        writes: writes?,
-        menu: menu?,
+        writes: writes.as_slice(),
+        menu: menu.as_slice(),
         asked: asked?,
     })
 }

@@ -4,7 +4,7 @@ use crate::faults::{Fault, put_cell};
 use crate::header::Header;
 use crate::reading::read_scene;
 use crate::row::{Row, Shape};
-use crate::scene::{MOST_ROM, Scene, Unplayed};
+use crate::scene::{MOST_ROM, NoBoard, RowSteps, Scene};
 use crate::totals::{Outcome, Totals};
 use scene_cells::columns::Column;
 use std::fmt;
@@ -98,15 +98,15 @@ fn put_name(out: &mut Output, row: Row) {
     put!(out; "\n");
 }
 
-fn check_played(scene: &Scene, out: &mut Output) -> Result<Outcome, Unplayed> {
-    let ended = scene.play(&scene.writes, &scene.menu)?;
+fn check_played(scene: &Scene, out: &mut Output) -> Result<Outcome, NoBoard> {
+    let ended = scene.play(scene.writes, scene.menu)?;
     check(scene, ended, out)
 }
 
 impl Sheet<'_> {
     // A row whose quotes are right and which is not blank.
-    fn play_scene(self, row: Row, out: &mut Output) -> Outcome {
-        let Ok(scene) = read_scene(self, row, out) else {
+    fn play_scene(self, row: Row, steps: &mut RowSteps, out: &mut Output) -> Outcome {
+        let Ok(scene) = read_scene(self, row, steps, out) else {
             return Outcome::Bad;
         };
         put_name(out, row);
@@ -119,12 +119,12 @@ impl Sheet<'_> {
         }
     }
 
-    fn play_row(self, row: Row, shape: Shape, out: &mut Output) -> Outcome {
+    fn play_row(self, row: Row, shape: Shape, steps: &mut RowSteps, out: &mut Output) -> Outcome {
         if shape.quotes.is_err() {
             return Outcome::Bad;
         }
         match shape.check() {
-            Ok(()) => self.play_scene(row, out),
+            Ok(()) => self.play_scene(row, steps, out),
             Err(fault) => {
                 row.tell(out, None, fault);
                 if fault == Fault::Blank {
@@ -138,6 +138,7 @@ impl Sheet<'_> {
 
     fn play_rows(self, out: &mut Output) -> Totals {
         let mut totals = Totals::default();
+        let mut steps = RowSteps::new();
         let mut told = 0;
         let mut rest = self.header.rest;
         // A sheet has far fewer rows.
@@ -147,7 +148,7 @@ impl Sheet<'_> {
             }
             let row = self.header.above(rest, number);
             let shape = row.read(out);
-            totals.add(self.play_row(row, shape, out));
+            totals.add(self.play_row(row, shape, &mut steps, out));
             told = tell(self.folder.rt.stderr(), number, totals.swept(), told);
             rest = shape.rest;
         }
