@@ -13,6 +13,8 @@ use text_output::Output;
 // The bytes that a path may have.
 const MOST_PATH: usize = 4095;
 
+// Out of line, so that a row that names no file makes no room for one.
+#[inline(never)]
 fn cartridge_at(rt: &HostRuntime, path: &[u8]) -> Result<Cartridge, WordFault> {
     let mut bytes = [0u8; LONGEST];
     match read_file(rt, path, &mut bytes) {
