@@ -79,9 +79,10 @@ impl<'a> Player<'a> {
 
 // The first line of a text, and what stands behind its line feed.
 fn first_line(text: &[u8]) -> (&[u8], &[u8]) {
-    match text.iter().position(|byte| *byte == b'\n') {
-        Some(end) => (&text[..end], &text[end + 1..]),
-        None => (text, &[]),
+    let feed = text.iter().position(|byte| *byte == b'\n');
+    match text.split_at(feed.unwrap_or(text.len())) {
+        (line, [_, behind @ ..]) => (line, behind),
+        whole => whole,
     }
 }
 

@@ -1,5 +1,5 @@
 // A line's arguments, one after the other.
-ghost use Rattle.std.specs.Prelude.{◌≡◌, ◌≤◌, map, IfOk};
+ghost use Rattle.std.specs.Prelude.{◌≡◌, ◌≤◌, drop, map, IfOk};
 ghost use Rattle.text_words.specs.Names.{words_of};
 ghost use Rattle.script_lines.specs.Readings.{address_after, byte_after, decimal_after, hexadecimal_after, marked_number, mirroring_after, named_after, number_after, number_fault, read, value_after};
 
@@ -42,7 +42,8 @@ fn fault(error: NumberError, none: LineError) -> LineError
     }
 }
 
-// A number in a base, up to a limit; none is what a word that is no number is wrong by.
+// A number in a base, up to a limit; none is what a word that is no number is wrong by. As by the next two, one word is taken,
+// also one that is wrong.
 #[tactic(auto, unfolding(crate::specs::Readings::number_after))]
 pub fn number_after(
     words: &mut Words<'_>,
@@ -51,6 +52,7 @@ pub fn number_after(
     none: LineError,
 ) -> Result<u32, LineError>
     ensures value { read (words_of words.new.text.now) result ≡ number_after base limit none (words_of words.old.text.now) }
+    ensures left { words_of words.new.text.now ≡ drop 1 (words_of words.old.text.now) }
     ensures limit { IfOk result (λ n. n ≤ limit) }
 {
     let word = words.next().ok_or(LineError::Missing)?;
@@ -93,7 +95,8 @@ pub(crate) fn mirroring_after(words: &mut Words<'_>) -> Result<Mirroring, LineEr
 // One of the names, as what it stands for.
 #[tactic(auto, unfolding(crate::specs::Readings::named_after))]
 pub fn named_after<T: Copy>(words: &mut Words<'_>, table: &[(&[u8], T)]) -> Result<T, LineError>
-    ensures { read (words_of words.new.text.now) result ≡ named_after (map (λ entry. (entry.0.now, entry.1)) table.now) (words_of words.old.text.now) }
+    ensures value { read (words_of words.new.text.now) result ≡ named_after (map (λ entry. (entry.0.now, entry.1)) table.now) (words_of words.old.text.now) }
+    ensures left { words_of words.new.text.now ≡ drop 1 (words_of words.old.text.now) }
 {
     let word = words.next().ok_or(LineError::Missing)?;
     named(table, word).ok_or(LineError::NoChoice)
@@ -102,7 +105,8 @@ pub fn named_after<T: Copy>(words: &mut Words<'_>, table: &[(&[u8], T)]) -> Resu
 // A value: a word that stands for a number, or a decimal number.
 #[tactic(auto, unfolding(crate::specs::Readings::value_after))]
 pub fn value_after(words: &mut Words<'_>) -> Result<u32, LineError>
-    ensures { read (words_of words.new.text.now) result ≡ value_after (words_of words.old.text.now) }
+    ensures value { read (words_of words.new.text.now) result ≡ value_after (words_of words.old.text.now) }
+    ensures left { words_of words.new.text.now ≡ drop 1 (words_of words.old.text.now) }
 {
     let word = words.next().ok_or(LineError::Missing)?;
     match named(&NUMBERS, word) {
