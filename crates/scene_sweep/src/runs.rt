@@ -48,18 +48,21 @@ impl Run {
         }
     }
 
-    // With the next clock.
-    fn with(self, seen: Seen) -> Run
+    // With the next clock. A span is written anew only where there is a clock more.
+    #[inline(always)]
+    fn with(mut self, seen: Seen) -> Run
         requires { self.to + 1 < 2 ^ 32 }
         ensures { result ≡ run_with self seen }
     {
-        Run {
-            first: self.first,
-            to: self.to + 1,
-            irq: self.irq.clock().irq,
-            set: spanned(self.set, seen.set),
-            cleared: spanned(self.cleared, seen.cleared),
+        self.to += 1;
+        self.irq = self.irq.clock().irq;
+        if let Some(n) = seen.set {
+            self.set = spanned(self.set, Some(n));
         }
+        if let Some(n) = seen.cleared {
+            self.cleared = spanned(self.cleared, Some(n));
+        }
+        self
     }
 }
 
