@@ -2,6 +2,7 @@
 ghost use Rattle.std.specs.Prelude.{◌≡◌, false};
 ghost use Rattle.registers.specs.Decode.{decode};
 ghost use Rattle.irq.specs.Timing.{line_length, line_step};
+ghost use Rattle.irq.specs.Writes.{irq_written_to};
 ghost use Rattle.irq_clocks.specs.Clocks.{irq_clocked_times};
 ghost use Rattle.scene_moments.specs.declared.moment.Moment.TheVariants.{Pending, Waiting};
 ghost use Rattle.scene_moments.specs.Verdicts.{cleared_of, set_of};
@@ -39,6 +40,24 @@ pub fn clocks_due(irq: VrcIrq) -> Option<u32>
     ensures { result ≡ clocks_due irq }
 {
     irq.forecast().map(|clocks| clocks.max(1))
+}
+
+// A write of the handler, `VrcIrq::write_at` in place: most writes reach another register, and a counter that each of them gives back
+// is put together anew from its fields.
+#[inline(always)]
+fn write(irq: &mut VrcIrq, revision_b: bool, addr: u16, val: u8)
+    ensures { irq.new ≡ irq_written_to (decode revision_b addr) val irq.old }
+{
+    if let Some(Register::OfIrq(register)) = decode(revision_b, addr) {
+        match register {
+            IrqRegister::Reload => irq.reload = val,
+            IrqRegister::Control => *irq = irq.write_control(val),
+            IrqRegister::Acknowledge => {
+                irq.enabled = irq.enabled_after_ack;
+                irq.irq_pending = false;
+            }
+        }
+    }
 }
 
 // The counter behind clocks that the handler waits, where the interrupt comes in none of them.
@@ -117,11 +136,7 @@ pub fn came_after(irq: VrcIrq, clock: u32, revision_b: bool, steps: &[Step]) -> 
     let mut rest = steps;
     while let [step, behind @ ..] = rest {
         match *step {
-            Step::Write(addr, val) => {
-                if let Some(Register::OfIrq(register)) = decode(revision_b, addr) {
-                    q = q.write_register(register, val);
-                }
-            }
+            Step::Write(addr, val) => write(&mut q, revision_b, addr, val),
             Step::Reset => q = q.reset(),
             // The interrupt may come in the midst of them.
             Step::Clocks(n) => match clocks_due(q) {
@@ -148,11 +163,7 @@ pub fn came_in(irq: VrcIrq, clock: u32, revision_b: bool, steps: &[Step]) -> Opt
     let mut at = clock;
     for (i, step) in steps.iter().enumerate() {
         match *step {
-            Step::Write(addr, val) => {
-                if let Some(Register::OfIrq(register)) = decode(revision_b, addr) {
-                    q = q.write_register(register, val);
-                }
-            }
+            Step::Write(addr, val) => write(&mut q, revision_b, addr, val),
             Step::Reset => q = q.reset(),
             Step::Clocks(n) => {
                 if clocks_due(q).is_some_and(|clocks| clocks <= n) {
