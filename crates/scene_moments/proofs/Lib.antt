@@ -1,3 +1,4 @@
+pub mod Clearing
 pub mod Ranks
 pub mod Rows
 pub mod Screens

@@ -1,9 +1,12 @@
 // The counter at a moment, what a handler's steps do to it, and when the interrupt comes.
-ghost use Rattle.std.specs.Prelude.{◌≡◌};
+ghost use Rattle.std.specs.Prelude.{◌≡◌, false};
 ghost use Rattle.registers.specs.Decode.{decode};
-ghost use Rattle.scene_moments.specs.declared.moment.Moment.TheVariants.{Waiting};
+ghost use Rattle.irq.specs.Timing.{line_length, line_step};
+ghost use Rattle.irq.specs.Writes.{irq_written_to};
+ghost use Rattle.irq_clocks.specs.Clocks.{irq_clocked_times};
+ghost use Rattle.scene_moments.specs.declared.moment.Moment.TheVariants.{Pending, Waiting};
 ghost use Rattle.scene_moments.specs.Verdicts.{cleared_of, set_of};
-ghost use Rattle.scene_moments.specs.Moments.{came, came_alone, came_in, clears, clocks_due, ended, has_come, menu_played, stepped, waited};
+ghost use Rattle.scene_moments.specs.Moments.{came, came_alone, came_in, clears, clocks_due, due_within, ended, step_pending};
 
 use irq::{LINE, STEP, VrcIrq};
 use irq_clocks::clocks::clock_times;
@@ -39,16 +42,31 @@ pub fn clocks_due(irq: VrcIrq) -> Option<u32>
     irq.forecast().map(|clocks| clocks.max(1))
 }
 
-// Clocks that the handler waits. The interrupt may come in the midst of them.
-#[tactic(auto, using(crate::proofs::Waiting::undisturbed))]
-fn wait(irq: VrcIrq, clock: u32, n: u32) -> Moment
-    ensures { result ≡ waited n irq clock }
+// A write of the handler, `VrcIrq::write_at` in place: most writes reach another register, and a counter that each of them gives back
+// is put together anew from its fields.
+#[inline(always)]
+fn write(irq: &mut VrcIrq, revision_b: bool, addr: u16, val: u8)
+    ensures { irq.new ≡ irq_written_to (decode revision_b addr) val irq.old }
 {
-    let behind = clock.wrapping_add(n);
-    match clocks_due(irq) {
-        Some(clocks) if clocks <= n => Moment::Pending(clock.wrapping_add(clocks), behind),
-        _ => Moment::Waiting(clock_times(irq, STEP, LINE, n), behind),
+    if let Some(Register::OfIrq(register)) = decode(revision_b, addr) {
+        match register {
+            IrqRegister::Reload => irq.reload = val,
+            IrqRegister::Control => *irq = irq.write_control(val),
+            IrqRegister::Acknowledge => {
+                irq.enabled = irq.enabled_after_ack;
+                irq.irq_pending = false;
+            }
+        }
     }
+}
+
+// The counter behind clocks that the handler waits, where the interrupt comes in none of them.
+#[tactic(auto, using(crate::proofs::Waiting::undisturbed))]
+fn gone_by(irq: VrcIrq, n: u32) -> VrcIrq
+    requires { due_within n (clocks_due irq) ≡ false }
+    ensures { result ≡ irq_clocked_times line_step line_length n irq }
+{
+    clock_times(irq, STEP, LINE, n)
 }
 
 // Whether a write to an address clears an interrupt that is pending.
@@ -61,43 +79,20 @@ fn clears(revision_b: bool, addr: u16) -> bool
     )
 }
 
+// A step of the handler while the interrupt is pending.
+#[inline(always)]
+fn hold(set: u32, clock: u32, revision_b: bool, given: Step) -> Moment
+    ensures { result ≡ step_pending revision_b given set clock }
+{
+    match given {
+        Step::Write(addr, _) if clears(revision_b, addr) => Moment::Cleared(set, clock),
+        Step::Write(..) => Moment::Pending(set, clock),
+        Step::Clocks(n) => Moment::Pending(set, clock.wrapping_add(n)),
+        Step::Reset => Moment::Cleared(set, clock),
+    }
+}
+
 impl Moment {
-    // Behind a step of the handler.
-    #[inline(always)]
-    fn step(self, revision_b: bool, given: Step) -> Moment
-        ensures { result ≡ stepped revision_b given self }
-    {
-        match (self, given) {
-            (Moment::Waiting(irq, clock), Step::Write(addr, val)) => {
-                Moment::Waiting(irq.write_at(revision_b, addr, val), clock)
-            }
-            (Moment::Waiting(irq, clock), Step::Clocks(n)) => wait(irq, clock, n),
-            (Moment::Waiting(irq, clock), Step::Reset) => Moment::Waiting(irq.reset(), clock),
-            (Moment::Pending(set, clock), Step::Write(addr, _)) if clears(revision_b, addr) => {
-                Moment::Cleared(set, clock)
-            }
-            (Moment::Pending(set, clock), Step::Clocks(n)) => {
-                Moment::Pending(set, clock.wrapping_add(n))
-            }
-            (Moment::Pending(set, clock), Step::Reset) => Moment::Cleared(set, clock),
-            _ => self,
-        }
-    }
-
-    // Behind all steps.
-    fn play(self, revision_b: bool, steps: &[Step]) -> Moment
-        ensures { result ≡ menu_played revision_b steps.now self }
-    {
-        steps.iter().fold(self, |m, step| m.step(revision_b, *step))
-    }
-
-    // Whether the interrupt has come.
-    fn has_come(self) -> bool
-        ensures { result ≡ has_come self }
-    {
-        !matches!(self, Moment::Waiting(..))
-    }
-
     // The interrupt's clock, if nothing else happens.
     fn end(self) -> Came
         ensures { result ≡ ended self }
@@ -113,8 +108,25 @@ impl Moment {
     }
 }
 
+// How a handler ends in which the interrupt is pending. The loop carries a clock alone.
+#[tactic(auto, using(crate::proofs::Clearing::stays_lost))]
+fn held(set: u32, clock: u32, revision_b: bool, steps: &[Step]) -> Came
+    ensures { result ≡ came revision_b steps.now (Pending set clock) }
+{
+    let mut at = clock;
+    let mut rest = steps;
+    while let [step, behind @ ..] = rest {
+        match hold(set, at, revision_b, *step) {
+            Moment::Pending(_, next) => at = next,
+            moment => return moment.end(),
+        }
+        rest = behind;
+    }
+    Moment::Pending(set, at).end()
+}
+
 // When the interrupt comes if a handler of these steps runs at a clock that leaves the counter so. Most moments end before it, so
-// the loop carries nothing of what comes behind, and says what a step does once more: a sweep takes 0.37 s by steps, and 0.21 s so.
+// the loop carries the counter and the clock alone, and no `Moment`, whose cases share their bytes.
 #[inline(always)]
 pub fn came_after(irq: VrcIrq, clock: u32, revision_b: bool, steps: &[Step]) -> Came
     ensures { result ≡ came revision_b steps.now (Waiting irq clock) }
@@ -124,14 +136,18 @@ pub fn came_after(irq: VrcIrq, clock: u32, revision_b: bool, steps: &[Step]) -> 
     let mut rest = steps;
     while let [step, behind @ ..] = rest {
         match *step {
-            Step::Write(addr, val) => q = q.write_at(revision_b, addr, val),
+            Step::Write(addr, val) => write(&mut q, revision_b, addr, val),
             Step::Reset => q = q.reset(),
-            Step::Clocks(n) => match wait(q, at, n) {
-                Moment::Waiting(next, clock) => {
-                    q = next;
-                    at = clock;
+            // The interrupt may come in the midst of them.
+            Step::Clocks(n) => match clocks_due(q) {
+                Some(clocks) if clocks <= n => {
+                    let set = at.wrapping_add(clocks);
+                    return held(set, at.wrapping_add(n), revision_b, behind);
                 }
-                moment => return moment.play(revision_b, behind).end(),
+                _ => {
+                    q = gone_by(q, n);
+                    at = at.wrapping_add(n);
+                }
             },
         }
         rest = behind;
@@ -143,11 +159,19 @@ pub fn came_after(irq: VrcIrq, clock: u32, revision_b: bool, steps: &[Step]) -> 
 pub fn came_in(irq: VrcIrq, clock: u32, revision_b: bool, steps: &[Step]) -> Option<usize>
     ensures { result ≡ came_in revision_b steps.now (Waiting irq clock) 0 }
 {
-    let mut m = Moment::Waiting(irq, clock);
+    let mut q = irq;
+    let mut at = clock;
     for (i, step) in steps.iter().enumerate() {
-        m = m.step(revision_b, *step);
-        if m.has_come() {
-            return Some(i);
+        match *step {
+            Step::Write(addr, val) => write(&mut q, revision_b, addr, val),
+            Step::Reset => q = q.reset(),
+            Step::Clocks(n) => {
+                if clocks_due(q).is_some_and(|clocks| clocks <= n) {
+                    return Some(i);
+                }
+                q = gone_by(q, n);
+                at = at.wrapping_add(n);
+            }
         }
     }
     None

@@ -4,7 +4,6 @@ ghost use Rattle.scene_moments.specs.Verdicts.{counted_of, line_told, lost_on, m
 
 use crate::lines::Screen;
 use crate::moment::Came;
-use std::cmp::Ordering;
 use std::fmt;
 
 // How a moment is marked, the worse the greater.
@@ -87,10 +86,12 @@ impl Window {
     fn on_line(self, line: u32) -> Verdict
         ensures { result ≡ on_line line self.line }
     {
-        match line.cmp(&self.line) {
-            Ordering::Less => Verdict::Early(line, self.line - line),
-            Ordering::Greater => Verdict::Late(line, line - self.line),
-            Ordering::Equal => Verdict::Right(line),
+        if line < self.line {
+            Verdict::Early(line, self.line - line)
+        } else if self.line < line {
+            Verdict::Late(line, line - self.line)
+        } else {
+            Verdict::Right(line)
         }
     }
 

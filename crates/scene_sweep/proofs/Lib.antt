@@ -6,3 +6,4 @@ pub mod Running
 pub mod Spanning
 pub mod Sweeping
 pub mod Tallying
+pub mod Telling

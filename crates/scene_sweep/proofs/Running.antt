@@ -12,6 +12,8 @@ use Rattle.scene_sweep.specs.declared.runs.Sweep.{Sweep}
 use Rattle.scene_sweep.specs.declared.runs.Run.{Run}
 use Rattle.scene_sweep.specs.Spans.{SpanOf}
 use Rattle.scene_sweep.proofs.Spanning.{none_spanned, more_spanned}
+use Rattle.scene_sweep.proofs.Telling.{same_told}
+use Rattle.scene_moments.specs.Verdicts.{line_told, mark_of}
 use Rattle.scene_sweep.specs.Runs.{RunOf, run_of, run_with, seen_at, seen_from, seen_in}
 
 module _ (s : Sweep) (menu : List Step) (q : VrcIrq) (from n : ℕ) where
@@ -107,6 +109,15 @@ module _ (s : Sweep) (menu : List Step) (q : VrcIrq) (from n : ℕ) where
             set = more_spanned (λ j. (at j).set) from r.to low r.set seen.set (ap (λ (x : Seen). x.set) (sym told)) g.set;
             cleared = more_spanned (λ j. (at j).cleared) from r.to low r.cleared seen.cleared (ap (λ (x : Seen). x.cleared) (sym told)) g.cleared;
           }
+
+      pub goes_on_told : mark_of seen.verdict ≡ mark_of r.first.verdict → line_told seen.verdict ≡ line_told r.first.verdict → Going (run_with r seen)
+      goes_on_told m l =
+          let x = ap (λ (v : Seen). v.verdict) e in
+          let y = ap (λ (v : Seen). v.verdict) g.first in
+          goes_on
+          (x
+          ∙ same_told s.window _ _ (ap mark_of (sym x) ∙ m ∙ ap mark_of y) (ap line_told (sym x) ∙ l ∙ ap line_told y)
+          ∙ sym y)
 
 -- ---- in a whole sweep
 -- the counter at a clock, from the counter at an earlier one

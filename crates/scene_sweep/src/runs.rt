@@ -1,11 +1,12 @@
 // Runs of clocks at which the menu has one verdict.
-ghost use Rattle.std.specs.Prelude.{◌≡◌, ◌+◌, ◌^◌, ◌<◌};
+ghost use Rattle.std.specs.Prelude.{◌≡◌, ◌≢◌, ◌+◌, ◌^◌, ◌<◌, true, false};
+ghost use Rattle.scene_moments.specs.Verdicts.{line_told, mark_of};
 ghost use Rattle.scene_sweep.specs.Runs.{RunOf, run_of, run_with, seen_at};
 
 use crate::spans::{Span, spanned};
 use irq::VrcIrq;
 use scene_moments::moment::came_after;
-use scene_moments::verdict::{Seen, Window};
+use scene_moments::verdict::{Seen, Verdict, Window};
 use scene_steps::Step;
 
 // What all moments of a sweep share.
@@ -48,19 +49,30 @@ impl Run {
         }
     }
 
-    // With the next clock.
-    fn with(self, seen: Seen) -> Run
+    // With the next clock. A span is written anew only where there is a clock more.
+    #[inline(always)]
+    fn with(mut self, seen: Seen) -> Run
         requires { self.to + 1 < 2 ^ 32 }
         ensures { result ≡ run_with self seen }
     {
-        Run {
-            first: self.first,
-            to: self.to + 1,
-            irq: self.irq.clock().irq,
-            set: spanned(self.set, seen.set),
-            cleared: spanned(self.cleared, seen.cleared),
+        self.to += 1;
+        self.irq = self.irq.clock().irq;
+        if let Some(n) = seen.set {
+            self.set = spanned(self.set, Some(n));
         }
+        if let Some(n) = seen.cleared {
+            self.cleared = spanned(self.cleared, Some(n));
+        }
+        self
     }
+}
+
+// Of one sweep, two verdicts with the same mark and line are the same: both tell how far off it is.
+fn same(a: Verdict, b: Verdict) -> bool
+    ensures same { result ≡ true → (mark_of a ≡ mark_of b) × (line_told a ≡ line_told b) }
+    ensures other { result ≡ false → a ≢ b }
+{
+    a.mark() == b.mark() && a.line() == b.line()
 }
 
 impl MenuSweep<'_> {
@@ -82,7 +94,7 @@ impl MenuSweep<'_> {
         // The run counts its clocks itself.
         while run.to < clocks {
             let seen = self.seen(run.irq, run.to);
-            if seen.verdict != run.first.verdict {
+            if !same(seen.verdict, run.first.verdict) {
                 return run;
             }
             run = run.with(seen);

@@ -5,4 +5,4 @@ use Rattle.scene_moments.specs.Moments.{came_in}
 use Rattle.scene_moments.proofs.moment.came_in.Given as goal
 
 abbrev pub invariant-loop-i : goal.invariant-loop-i
-invariant-loop-i l = came_in l.revision_b (drop l.i l.steps) l.m l.i ≡ came_in l.revision_b l.steps (Waiting l.fn.irq l.clock) 0
+invariant-loop-i l = came_in l.revision_b (drop l.i l.steps) (Waiting l.q l.at) l.i ≡ came_in l.revision_b l.steps (Waiting l.fn.irq l.clock) 0
