@@ -28,6 +28,7 @@ pub fn read_first<F: Read + Drop, A: Allocator>(
     file.take(most as u64).read_to_end(&mut bytes)?;
     // It cuts nothing off: of bytes that are not known `read_to_end` doesn't promise how many there are.
     bytes.truncate(most);
+    bytes.shrink_to_fit();
     Ok(bytes)
 }
 
