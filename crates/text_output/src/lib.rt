@@ -62,6 +62,7 @@ impl Output {
     }
 
     // Bytes that fit behind those that wait.
+    #[inline(always)]
     fn append(&mut self, bytes: &[u8])
         requires { length self.old + length bytes.now ≤ 65536 }
         ensures { self.new ≡ self.old ++ bytes.now }
@@ -71,11 +72,11 @@ impl Output {
         self.len = end;
     }
 
-    // Bytes of any kind, as those of a name or a cell. As with bytes that are put one by one, a buffer is written out whole, as soon as
-    // a byte follows that it has no room for.
-    pub fn text(&mut self, bytes: &[u8])
-        ensures waits { length self.old + length bytes.now ≤ 65536 → self.new ≡ self.old ++ bytes.now }
-        ensures goes_on { self.new ≡ waiting (self.old ++ bytes.now) }
+    // Bytes that may not fit: as with bytes that are put one by one, a buffer is written out whole, as soon as a byte follows that it has
+    // no room for. Out of line, so that a text that fits, as most do, is stored at once.
+    #[inline(never)]
+    fn fill(&mut self, bytes: &[u8])
+        ensures { self.new ≡ waiting (self.old ++ bytes.now) }
     {
         let mut rest = bytes;
         while ROOM - self.len < rest.len() {
@@ -85,6 +86,18 @@ impl Output {
             rest = behind;
         }
         self.append(rest);
+    }
+
+    // Bytes of any kind, as those of a name or a cell.
+    pub fn text(&mut self, bytes: &[u8])
+        ensures waits { length self.old + length bytes.now ≤ 65536 → self.new ≡ self.old ++ bytes.now }
+        ensures goes_on { self.new ≡ waiting (self.old ++ bytes.now) }
+    {
+        if ROOM - self.len < bytes.len() {
+            self.fill(bytes);
+        } else {
+            self.append(bytes);
+        }
     }
 
     // What `put!` calls.

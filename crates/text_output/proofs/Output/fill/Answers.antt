@@ -1,10 +1,10 @@
--- `Output::text` meets its contract. Assumes nothing.
+-- `Output::fill` meets its contract. Assumes nothing.
 use native.Mathlib.Omega.{arith}
 use Rattle.std.proofs.Common.{sym, ap, ap₂, ◌∙◌, ◌++◌, ◌-◌, ◌+◌, ◌≡◌, length}
 use Rattle.std.proofs.lemmas.List.{length-take-le}
 use Rattle.text_output.specs.Appends.{waiting}
 use Rattle.text_output.proofs.Waiting.{whole_out}
-use Rattle.text_output.proofs.Output.text.Goals as goal
+use Rattle.text_output.proofs.Output.fill.Goals as goal
 
 pub loop-self-preserved : goal.loop-self-preserved
 loop-self-preserved c =
