@@ -1,7 +1,8 @@
 // A file's bytes by its name.
 #![tactic(auto)]
 
-ghost use Rattle.std.specs.Prelude.{◌≡◌, ◌<◌, ◌≤◌, length, take, IfOk};
+ghost use Rattle.std.specs.Prelude.{◌≡◌, ◌≢◌, ◌<◌, ◌≤◌, length, take, IfErr, IfOk};
+ghost use Rattle.std.specs.IoError.{error_kind};
 ghost use Rattle.std.specs.Io.KnownBytes.{Consumes, IsAtEnd};
 
 use arrayvec::ArrayString;
@@ -18,6 +19,7 @@ fn read_some<F: Read>(file: &mut F, bytes: &mut [u8]) -> Result<usize, Error>
     ensures fits { IfOk result (λ n. n ≤ length bytes.new) }
     ensures first { IfOk result (λ n. Consumes (F.remaining file.old) (F.remaining file.new) (take n bytes.new)) }
     ensures end { IfOk result (λ n. n ≡ 0 → 0 < length bytes.new → IsAtEnd (F.remaining file.new)) }
+    ensures retried { IfErr result (λ e. error_kind e ≢ ErrorKind.Interrupted) }
 {
     for _ in 0..u64::MAX {
         match file.read(bytes) {
@@ -25,7 +27,7 @@ fn read_some<F: Read>(file: &mut F, bytes: &mut [u8]) -> Result<usize, Error>
             read => return read,
         }
     }
-    Err(Error::from(ErrorKind::Interrupted))
+    Err(Error::from(ErrorKind::TimedOut))
 }
 
 // Reads until the buffer is full or the file ends, and hands back how many bytes stand at the buffer's start.
