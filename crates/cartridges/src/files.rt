@@ -17,11 +17,11 @@ fn put_answer(out: &mut Output, file: &[u8]) {
 pub(crate) fn print_file(rt: &HostRuntime, name: &[u8]) {
     let mut bytes = [0u8; LONGEST];
     let mut out = Output::new(rt.stdout());
-    out.text(name);
+    out.put_all(name);
     out.put(b'\n');
     match read_file(rt, name, &mut bytes) {
         Ok(file) => put_answer(&mut out, file),
-        Err(_) => out.text(b"  can't be read\n"),
+        Err(_) => out.put_all(b"  can't be read\n"),
     }
     out.flush();
 }

@@ -99,8 +99,8 @@ fn play_named(rt: &HostRuntime, name: &[u8], out: &mut Output) -> Result<(), Err
     let text = read_file(rt, name, &mut bytes)?;
     // A text that is as long as is read may be longer.
     if LONGEST <= text.len() {
-        out.text(name);
-        out.text(b": longer than 524815 bytes\n");
+        out.put_all(name);
+        out.put_all(b": longer than 524815 bytes\n");
         return Ok(());
     }
     let mut space = [0u8; LONGEST_FILE];
@@ -111,7 +111,7 @@ fn play_named(rt: &HostRuntime, name: &[u8], out: &mut Output) -> Result<(), Err
     };
     player.play_lines(text);
     let tally = player.tally;
-    out.text(name);
+    out.put_all(name);
     put!(out; ": {tally}\n");
     Ok(())
 }

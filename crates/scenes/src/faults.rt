@@ -104,11 +104,11 @@ const DIGITS: [u8; 16] = *b"0123456789ABCDEF";
 fn put_byte(out: &mut Output, byte: u8) {
     if byte.is_ascii_control() {
         // By hand, since a name may have nothing else: a format for each byte takes longer.
-        out.text(b"\\x");
+        out.put_all(b"\\x");
         out.put(DIGITS[usize::from(byte / 16)]);
         out.put(DIGITS[usize::from(byte % 16)]);
     } else if byte == b'\\' {
-        out.text(b"\\\\");
+        out.put_all(b"\\\\");
     } else {
         out.put(byte);
     }

@@ -80,7 +80,7 @@ fn main(rt: HostRuntime) {
     for argument in Arguments::new(&rt) {
         let path = argument.bytes();
         if count > 1 {
-            out.text(path);
+            out.put_all(path);
             out.put(b'\n');
             out.flush();
         }

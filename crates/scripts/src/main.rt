@@ -24,7 +24,7 @@ fn play_file(rt: &HostRuntime, name: &[u8], printed: Printed) {
         Ok(mut file) => run(&mut file, name, &mut out, printed),
         Err(_) => {
             put!(out; "no such file: ");
-            out.text(name);
+            out.put_all(name);
             out.put(b'\n');
             out.flush();
         }

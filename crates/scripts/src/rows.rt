@@ -45,11 +45,11 @@ fn put_name(out: &mut Output, line: &[u8]) {
     let mut words = Words { text: line };
     let _expect = words.next();
     if let Some(name) = words.next() {
-        out.text(name);
+        out.put_all(name);
     }
     if let (Some(place), Some(_)) = (words.next(), words.next()) {
         out.put(b' ');
-        out.text(place);
+        out.put_all(place);
     }
 }
 
@@ -81,7 +81,7 @@ impl Rows {
             return;
         }
         out.put(b'\n');
-        out.text(name);
+        out.put_all(name);
         put!(out; ": {}\n", *self);
     }
 }

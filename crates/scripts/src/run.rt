@@ -32,7 +32,7 @@ pub fn run<F: Read>(file: &mut F, name: &[u8], out: &mut Output, printed: Printe
             Ok(true) => {}
             Ok(false) => break,
             Err(error) => {
-                out.text(name);
+                out.put_all(name);
                 put!(out; ", line {number}: {error}\n");
                 break;
             }

@@ -43,7 +43,7 @@ pub struct Session {
 fn put_heading(out: &mut Output, line: &[u8]) {
     out.put(b'\n');
     if let Some(word) = next_word(line) {
-        out.text(from_first(word.rest, false));
+        out.put_all(from_first(word.rest, false));
     }
     out.put(b'\n');
 }

@@ -88,8 +88,8 @@ impl Output {
         self.append(rest);
     }
 
-    // Bytes of any kind, as those of a name or a cell.
-    pub fn text(&mut self, bytes: &[u8])
+    // Bytes of any kind, as those of a name or a cell, as if each were put.
+    pub fn put_all(&mut self, bytes: &[u8])
         ensures waits { length self.old + length bytes.now ≤ 65536 → self.new ≡ self.old ++ bytes.now }
         ensures goes_on { self.new ≡ waiting (self.old ++ bytes.now) }
     {
@@ -97,6 +97,23 @@ impl Output {
             self.fill(bytes);
         } else {
             self.append(bytes);
+        }
+    }
+
+    // Bytes that stay together: where there is no room for all of them, those that wait are written out before them. More than the buffer
+    // holds are written out at once. `put_all` fills the buffer first.
+    pub fn text(&mut self, bytes: &[u8])
+        ensures waits { length self.old + length bytes.now ≤ 65536 → self.new ≡ self.old ++ bytes.now }
+        ensures follows { 65536 < length self.old + length bytes.now → length bytes.now ≤ 65536 → self.new ≡ bytes.now }
+        ensures passes { 65536 < length bytes.now → self.new ≡ [] }
+    {
+        let fits = bytes.len() <= ROOM - self.len;
+        if !fits {
+            self.flush();
+        }
+        self.put_all(bytes);
+        if ROOM < bytes.len() {
+            self.flush();
         }
     }
 
@@ -112,7 +129,7 @@ impl fmt::Write for Output {
     ghost write_str_gives = { appends };
 
     fn write_str(&mut self, text: &str) -> fmt::Result {
-        self.text(text.as_bytes());
+        self.put_all(text.as_bytes());
         Ok(())
     }
 }
@@ -123,4 +140,20 @@ macro_rules! put {
     ($out:expr; $($arg:tt)+) => {{
         let _ = $out.print(format_args!($($arg)+));
     }};
+}
+
+#[cfg(test)]
+mod tests {
+    use super::Output;
+
+    // No contract says what is written out: this prints a line.
+    #[test]
+    fn prints_a_text(rt: HostRuntime) {
+        let mut out = Output::new(rt.stdout());
+        out.text(b"story");
+        out.text(b" two\n");
+        assert_eq!(rt; out.bytes[..out.len], *b"story two\n".as_slice());
+        out.flush();
+        assert_eq!(rt; out.len, 0);
+    }
 }
