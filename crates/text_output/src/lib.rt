@@ -100,8 +100,8 @@ impl Output {
         }
     }
 
-    // Bytes that stay together: where there is no room for all of them, those that wait are written out before them. More than the buffer
-    // holds are written out at once. `put_all` fills the buffer first.
+    // Bytes that stay together: where there is no room for all of them, those that wait are written out before them, and more than the
+    // buffer holds are written out at once. `put_all` fills the buffer first.
     pub fn text(&mut self, bytes: &[u8])
         ensures waits { length self.old + length bytes.now ≤ 65536 → self.new ≡ self.old ++ bytes.now }
         ensures follows { 65536 < length self.old + length bytes.now → length bytes.now ≤ 65536 → self.new ≡ bytes.now }
@@ -111,10 +111,11 @@ impl Output {
         if !fits {
             self.flush();
         }
-        self.put_all(bytes);
         if ROOM < bytes.len() {
-            self.flush();
+            let _ = self.stdout.write_all(bytes);
+            return;
         }
+        self.put_all(bytes);
     }
 
     // What `put!` calls.
@@ -146,7 +147,7 @@ macro_rules! put {
 mod tests {
     use super::Output;
 
-    // No contract says what is written out: this prints a line.
+    // What is written out is in no contract, and no test sees it: this one prints a line.
     #[test]
     fn prints_a_text(rt: HostRuntime) {
         let mut out = Output::new(rt.stdout());
